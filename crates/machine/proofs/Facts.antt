@@ -1,0 +1,6 @@
+-- Facts that mention no machine: tests, lists, the tree, words.
+pub mod Tests
+pub mod Below
+pub mod Lists
+pub mod Words
+pub mod Leaves

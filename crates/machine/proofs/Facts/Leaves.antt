@@ -1,0 +1,79 @@
+-- What holds of each of the five numbers of leaves, and of the tree's nodes: one computed test each, and the law that it gives.
+--     by-leaves     a test that 1, 2, 4, 8 and 16 pass, passed by every accepted number of leaves
+--     height-is     2^h = L
+--     depth-root, depth-left, depth-right    node 1 has depth 0, and a child lies one level below its parent
+-- Assumes nothing.
+use mathlib.Core.Path.{_≡_, refl}
+use mathlib.Core.Bool.{Bool, true, cond, _&&_, false≢true}
+use Prim.Native.Nat.{ℕ, _+_, _*_, _^_, _≤_, _<_}
+use native.Mathlib.Decide.{decLt}
+use native.Mathlib.Omega.{arith}
+use lib.Dec.{eqb, ltb, leb}
+use borrow.Author.Tests.{ne-eqb, eqb-true, leb-true, lt-ltb}
+use Rattle.machine.specs.Below.{allBelow}
+use Rattle.machine.specs.Setup.{isLeaves, log2, height}
+use Rattle.machine.proofs.Facts.Tests.{and-left, and-right}
+use Rattle.machine.proofs.Facts.Below.{all-at}
+
+leaves-small : (l : ℕ) → isLeaves l ≡ true → Dec (l < 17) → l < 17
+unfolding isLeaves
+leaves-small l e (yes k) = k
+leaves-small l e (no k) =
+    absurd
+    (false≢true
+    (simp (
+      ne-eqb l 1 (λ q. omega arith),
+      ne-eqb l 2 (λ q. omega arith),
+      ne-eqb l 4 (λ q. omega arith),
+      ne-eqb l 8 (λ q. omega arith),
+      ne-eqb l 16 (λ q. omega arith),
+    ) at e))
+
+-- a test of the accepted numbers of leaves alone
+abbrev ofLeaves : (ℕ → Bool) → ℕ → Bool
+ofLeaves f l = cond (isLeaves l) (f l) true
+
+pub by-leaves : (f : ℕ → Bool) → allBelow 17 (ofLeaves f) ≡ true → (l : ℕ) → isLeaves l ≡ true → f l ≡ true
+by-leaves f t l e = rw e at (all-at 17 (ofLeaves f) t l (leaves-small l e (decLt l 17)))
+
+pub leaves-low : (l : ℕ) → isLeaves l ≡ true → 1 ≤ l
+leaves-low l e = leb-true 1 l (by-leaves (leb 1) low l e)
+  where
+    low : allBelow 17 (ofLeaves (leb 1)) ≡ true
+    low = unfold allBelow isLeaves in refl
+
+pub leaves-high : (l : ℕ) → isLeaves l ≡ true → l ≤ 16
+leaves-high l e = omega (arith, leaves-small l e (decLt l 17))
+
+powerIs : ℕ → Bool
+powerIs l = eqb (2 ^ height l) l
+
+powers : allBelow 17 (ofLeaves powerIs) ≡ true
+unfolding allBelow isLeaves powerIs log2
+powers = refl
+
+pub height-is : (l : ℕ) → isLeaves l ≡ true → 2 ^ height l ≡ l
+unfolding powerIs
+height-is l e = eqb-true (2 ^ height l) l (by-leaves powerIs powers l e)
+
+-- the children of node v, if it is one
+below : ℕ → Bool
+below v = cond (ltb 0 v) (eqb (log2 (2 * v)) (log2 v + 1) && eqb (log2 (2 * v + 1)) (log2 v + 1)) true
+
+levels : allBelow 16 below ≡ true
+unfolding allBelow below log2
+levels = refl
+
+pub depth-root : log2 1 ≡ 0
+unfolding log2
+depth-root = refl
+
+pub depth-left : (v : ℕ) → 0 < v → v < 16 → log2 (2 * v) ≡ log2 v + 1
+unfolding below
+depth-left v k l =
+    eqb-true _ _ (and-left (eqb (log2 (2 * v)) (log2 v + 1)) (eqb (log2 (2 * v + 1)) (log2 v + 1)) (rw (lt-ltb 0 v k) at (all-at 16 below levels v l)))
+
+pub depth-right : (v : ℕ) → 0 < v → v < 16 → log2 (2 * v + 1) ≡ log2 v + 1
+unfolding below
+depth-right v k l =
+    eqb-true _ _ (and-right (eqb (log2 (2 * v)) (log2 v + 1)) (eqb (log2 (2 * v + 1)) (log2 v + 1)) (rw (lt-ltb 0 v k) at (all-at 16 below levels v l)))

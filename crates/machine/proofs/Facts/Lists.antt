@@ -1,0 +1,43 @@
+-- What stands at a place of a list after a store, and after every element moved up by one: by whether it is that place.
+-- Assumes nothing.
+use mathlib.Core.Path.{_≡_, refl, sym, _∙_}
+use mathlib.Core.List.{List, [], _∷_, _++_}
+use Prim.Native.Nat.{ℕ, zero, suc, _<_}
+use native.Mathlib.Decide.{ℕ-discrete, decLt}
+use native.Mathlib.Omega.{arith}
+use lib.ListN.{length, getD, set, drop, length-set}
+use lib.Seq.{getD-set-same, getD-set-other, set-out}
+
+-- what holds of the value stored, and of what stood there, holds of what stands there after the store
+pub getD-set-by : {A : Type 0} (P : A → Type 0) (l : List A) (i : ℕ) (a : A) (j : ℕ) (d : A)
+    → (j ≡ i → P a) → P (getD l j d) → P (getD (set l i a) j d)
+getD-set-by P l i a j d f o = go (ℕ-discrete j i) (decLt i (length l))
+  where
+    go : Dec (j ≡ i) → Dec (i < length l) → P (getD (set l i a) j d)
+    go (yes e) (yes k) = rw (e, getD-set-same l i a d k) (f e)
+    go (yes e) (no k) = rw (set-out l i a (omega arith)) o
+    go (no e) k = rw (getD-set-other l i j a d e) o
+
+-- the last place takes what stands past the end
+pub getD-moved : {A : Type 0} (l : List A) (i : ℕ) (d : A) → getD (drop 1 l ++ (d ∷ [])) i d ≡ getD l (suc i) d
+getD-moved [] zero d = refl
+getD-moved [] (suc i) d = refl
+getD-moved (x ∷ []) zero d = refl
+getD-moved (x ∷ []) (suc i) d = refl
+getD-moved (x ∷ y ∷ l) zero d = refl
+getD-moved (x ∷ y ∷ l) (suc i) d = getD-moved (y ∷ l) i d
+
+-- two lists of one length that agree at the places in use
+pub record Agrees {A : Type 0} (d : A) (used : ℕ → Type 0) (l l′ : List A) : Type 0 where
+  pub at : (i : ℕ) → used i → getD l′ i d ≡ getD l i d
+  pub size : length l′ ≡ length l
+
+-- they agree after the same store
+pub store-agrees : {A : Type 0} {d : A} {used : ℕ → Type 0} {l l′ : List A} (i : ℕ) (a : A) → Agrees d used l l′ → Agrees d used (set l i a) (set l′ i a)
+store-agrees {d = d} {used} {l} {l′} i a k =
+    record { at = λ j u. go j u (ℕ-discrete j i) (decLt i (length l)); size = length-set l′ i a ∙ k .size ∙ sym (length-set l i a) }
+  where
+    go : (j : ℕ) → used j → Dec (j ≡ i) → Dec (i < length l) → getD (set l′ i a) j d ≡ getD (set l i a) j d
+    go j u (yes q) (yes e) = rw q (getD-set-same l′ i a d (omega (arith, k .size)) ∙ sym (getD-set-same l i a d e))
+    go j u (yes q) (no e) = rw (set-out l i a (omega arith), set-out l′ i a (omega (arith, k .size))) (k .at j u)
+    go j u (no q) e = getD-set-other l′ i j a d q ∙ k .at j u ∙ sym (getD-set-other l i j a d q)

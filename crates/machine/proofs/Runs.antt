@@ -1,0 +1,39 @@
+-- What computed runs are written with: the bytes of events, the lines of a journal, and one name that opens every definition.
+-- Assumes nothing.
+use mathlib.Core.List.{List, [], _∷_}
+use Prim.Native.Nat.{ℕ}
+use Rattle.machine.specs.Below.{allBelow, sumBelow, tabulate}
+use Rattle.machine.specs.Setup.{isLeaves, setupAnswer, log2}
+use Rattle.machine.specs.Operations.{firstZero, setFirstZero, clrBit, boundedDecrement}
+use Rattle.machine.specs.State.{freshCounterAt, freshProcessAt, fresh, blank, setup}
+use Rattle.machine.specs.Range.{setupInRange, gateInRange, inRange}
+use Rattle.machine.specs.Gate.{above0, inQueue, movedUp, headGone, enter, await, leave}
+use Rattle.machine.specs.Getname.{side, outcome, descend, probe, getnameStep}
+use Rattle.machine.specs.Putname.{giveBack, climb, putnameStep}
+use Rattle.machine.specs.Event.{request, release, guarded, step, event}
+use Rattle.machine.specs.Admitted.{isAdmitted, admitted}
+use Rattle.machine.specs.Lists.{eventsOf, after, answers, entryOf, journal, run, runJournal}
+use Rattle.machine.specs.Reports.{positivePart, gateReport, statusAnswer, statusList}
+
+-- `unfolding machine` opens every definition of specs/, so that a run computes
+unfoldable pub machine : Unit {0}
+unfolding
+    allBelow sumBelow tabulate isLeaves setupAnswer log2 firstZero setFirstZero clrBit boundedDecrement freshCounterAt
+    freshProcessAt fresh blank setup setupInRange gateInRange inRange above0 inQueue movedUp headGone enter await leave side
+    outcome descend probe getnameStep giveBack climb putnameStep request release guarded step event isAdmitted admitted eventsOf
+    after answers entryOf journal run runJournal positivePart gateReport statusAnswer statusList
+machine = tt
+
+-- the bytes of an ask, a turn and a finish
+abbrev pub ask : ℕ → List ℕ
+ask p = 0 ∷ p ∷ []
+
+abbrev pub turn : ℕ → List ℕ
+turn p = 1 ∷ p ∷ []
+
+abbrev pub finish : ℕ → List ℕ
+finish p = 2 ∷ p ∷ []
+
+-- a journal entry: answer, stage, name, steps
+abbrev pub line : ℕ → ℕ → ℕ → ℕ → List ℕ
+line a stage name steps = a ∷ stage ∷ name ∷ steps ∷ []

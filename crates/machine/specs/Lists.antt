@@ -1,0 +1,65 @@
+-- Document 01, section Lists, journal and roll: lists of events, and the journal.
+use mathlib.Core.Bool.{cond, _||_}
+use mathlib.Core.List.{List, [], _∷_, _++_}
+use Prim.Native.Nat.{ℕ, _*_, _/_, _%_}
+use lib.Dec.{leb, eqb}
+use lib.ListN.{length, drop}
+use Rattle.machine.specs.Check.{Check, check, checked}
+use Rattle.machine.specs.Event.{event}
+use Rattle.machine.specs.Range.{inRange}
+use Rattle.machine.specs.State.{done, processAt}
+use Rattle.machine.specs.declared.State.{State}
+use Rattle.machine.specs.declared.Done.{Done}
+
+-- any two numbers, bad kinds and strangers among them
+pub record Event : Type 0 where
+  pub kind : ℕ
+  pub process : ℕ
+
+-- An event is two bytes: kind, process. (A byte left over is no event: an odd list is refused.)
+unfoldable pub eventsOf : List ℕ → List Event
+eventsOf [] = []
+eventsOf (k ∷ []) = []
+eventsOf (k ∷ p ∷ bytes) = record { kind = k; process = p } ∷ eventsOf bytes
+
+abbrev pub eventDone : State → Event → Done
+eventDone s e = event s (e .kind) (e .process)
+
+-- A list runs to its end; a refused event changes no state and the list goes on.
+unfoldable pub after : State → List Event → State
+after s [] = s
+after s (e ∷ es) = after (eventDone s e .state) es
+
+unfoldable pub answers : State → List Event → List ℕ
+answers s [] = []
+answers s (e ∷ es) = eventDone s e .answer ∷ answers (eventDone s e .state) es
+
+-- The journal takes four bytes for each event: answer, then stage, name and steps after it. For answers 12, 6 and 15 those
+-- three bytes are 255.
+unfoldable pub entryOf : State → Event → List ℕ
+entryOf s e =
+    let a : ℕ = eventDone s e .answer in
+    let h = processAt (eventDone s e .state) (e .process) in
+    cond (eqb a 12 || eqb a 6 || eqb a 15) (a ∷ 255 ∷ 255 ∷ 255 ∷ []) (a ∷ h .stage ∷ h .name ∷ h .steps ∷ [])
+
+unfoldable pub journal : State → List Event → List ℕ
+journal s [] = []
+journal s (e ∷ es) = entryOf s e ++ journal (eventDone s e .state) es
+
+-- four times the events of a list of bytes
+abbrev pub journalLength : List ℕ → ℕ
+journalLength bytes = 4 * (length bytes / 2)
+
+-- A list: 14, 13, 15 for the state, then its events.
+abbrev pub runChecks : State → List ℕ → List ℕ → List Check
+runChecks s bytes lent =
+    check 14 (eqb (length bytes % 2) 0) ∷ check 13 (leb (journalLength bytes) (length lent)) ∷ check 15 (inRange s) ∷ []
+
+-- the answer and the state; a refused list gives the state it was lent
+unfoldable pub run : State → List ℕ → List ℕ → Done
+run s bytes lent = checked (runChecks s bytes lent) (λ a. done a s) (done 0 (after s (eventsOf bytes)))
+
+-- the lent journal afterwards: bytes beyond four times the events are untouched, and a refused list writes nothing
+unfoldable pub runJournal : State → List ℕ → List ℕ → List ℕ
+runJournal s bytes lent =
+    checked (runChecks s bytes lent) (λ a. lent) (journal s (eventsOf bytes) ++ drop (journalLength bytes) lent)

@@ -1,0 +1,26 @@
+-- Document 01, section Events: stage 5, one step of the putname section (003, Figures 7.7 and 7.9).
+use mathlib.Core.Bool.{cond}
+use Prim.Native.Nat.{ℕ, _+_, _/_, _%_}
+use lib.Dec.{ltb, eqb}
+use Rattle.machine.specs.Gate.{leave}
+use Rattle.machine.specs.Operations.{clrBit}
+use Rattle.machine.specs.State.{none, withNode, withName, processAt, counterAt, wordAt, withCounter, withWord, update}
+use Rattle.machine.specs.declared.State.{State}
+
+-- With a name: bit (name mod b) of segment word (name div b) is cleared; name 255.
+unfoldable pub giveBack : State → ℕ → State
+giveBack s p =
+    let m : ℕ = processAt s p .name in
+    let r : ℕ = m / s .bits in
+    update p (withName none) (withWord r (clrBit (wordAt s r) (m % s .bits)) s)
+
+-- With no name, node v above 1: if v is even, the counter of v/2 rises by 1; the node becomes v div 2.
+unfoldable pub climb : State → ℕ → State
+climb s p =
+    let v : ℕ = processAt s p .node in
+    let u : ℕ = v / 2 in
+    update p (withNode u) (cond (eqb (v % 2) 0) (withCounter u (counterAt s u + 1) s) s)
+
+unfoldable pub putnameStep : State → ℕ → State
+putnameStep s p =
+    cond (eqb (processAt s p .name) none) (cond (ltb 1 (processAt s p .node)) (climb s p) (leave s p)) (giveBack s p)

@@ -1,0 +1,60 @@
+// The records of the machine, document 01's section State. What an event does to them is said in specs/.
+
+// One process (document 01: handset). `name` is 255 for none (pad); `steps` counts its getname steps (spent).
+#[repr(C)]
+pub struct Process {
+    pub stage: u8,
+    pub node: u8,
+    pub segment: u8,
+    pub name: u8,
+    pub steps: u8,
+}
+
+// The setup's four numbers, the gate word with its queue, a counter for each node (place 0 is unused), a word for each
+// segment (document 01: row), and the processes.
+#[repr(C)]
+pub struct State {
+    pub processes: u8,
+    pub leaves: u8,
+    pub segments: u8,
+    pub bits: u8,
+    pub gate: i8,
+    pub queued: u8,
+    pub queue: [u8; 64],
+    pub counters: [u8; 16],
+    pub words: [u8; 64],
+    pub process: [Process; 64],
+}
+
+// What a call answers: 0 or the number of a refusal, with the state after it.
+#[repr(C)]
+pub struct Done {
+    pub answer: u8,
+    pub state: State,
+}
+
+// What one getname step does: it goes left or right to a node, wins a name, moves to a segment, or finds none left
+// (document 01: goes left, goes right, wins a bit, changes row or strays).
+pub enum ClaimStep {
+    Left(u8),
+    Right(u8),
+    Won(u8),
+    NextSegment(u8),
+    Exhausted,
+}
+
+// The gate report: names still free at the gate (document 01: pads still open), and processes queued there.
+#[repr(C)]
+pub struct Report {
+    pub answer: u8,
+    pub free: u8,
+    pub queued: u8,
+}
+
+// One record of the status list (document 01: roll).
+#[repr(C)]
+pub struct Status {
+    pub stage: u8,
+    pub name: u8,
+    pub steps: u8,
+}
