@@ -5,6 +5,13 @@ use Prim.Native.Nat.{ℕ, _*_}
 use lib.Dec.{leb, ltb, eqb}
 use Rattle.machine.specs.Check.{Check, check, checked}
 
+-- Four numbers: processes (handsets) N, leaves L, segments (rows) in a leaf g, bits in a segment b.
+pub record Setup : Type 0 where
+  pub processes : ℕ
+  pub leaves : ℕ
+  pub segments : ℕ
+  pub bits : ℕ
+
 -- Names (document 01: pads) k = L·g·b.
 abbrev pub names : ℕ → ℕ → ℕ → ℕ
 names l g b = l * g * b
@@ -16,7 +23,7 @@ within low high n = leb low n && leb n high
 unfoldable pub isLeaves : ℕ → Bool
 isLeaves l = eqb l 1 || eqb l 2 || eqb l 4 || eqb l 8 || eqb l 16
 
--- Processes (handsets) N, 1 to 64; leaves L; segments (rows) in a leaf g, 1 to 8; bits in a segment b, 1 to 8; k at most 64.
+-- N is 1 to 64; L as above; g and b are 1 to 8; k is at most 64.
 -- Setup checks 1 to 5 in that order.
 abbrev pub setupChecks : ℕ → ℕ → ℕ → ℕ → List Check
 setupChecks n l g b =

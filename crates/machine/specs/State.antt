@@ -8,7 +8,7 @@ use lib.IntN.{ℤ, pos}
 use lib.ListN.{getD, set, replicate}
 use Rattle.machine.specs.Below.{tabulate}
 use Rattle.machine.specs.Check.{checked}
-use Rattle.machine.specs.Setup.{names, setupChecks, log2}
+use Rattle.machine.specs.Setup.{Setup, names, setupChecks, log2}
 use Rattle.machine.specs.Stage.{remainder}
 use Rattle.machine.specs.declared.Process.{Process}
 use Rattle.machine.specs.declared.State.{State}
@@ -56,8 +56,8 @@ abbrev pub wordAt : State → ℕ → ℕ
 wordAt s r = getD (s .words) r 0
 
 -- the setup's four numbers, as a state carries them
-abbrev pub setupOf : State → ℕ × ℕ × ℕ × ℕ
-setupOf s = (s .processes, s .leaves, s .segments, s .bits)
+abbrev pub setupOf : State → Setup
+setupOf s = record { processes = s .processes; leaves = s .leaves; segments = s .segments; bits = s .bits }
 
 abbrev pub namesOf : State → ℕ
 namesOf s = names (s .leaves) (s .segments) (s .bits)

@@ -18,13 +18,13 @@ module _ (n l g b : ℕ) (accepted : setupAnswer n l g b ≡ 0) where
   limits : Limits n l g b
   limits = limits-of n l g b accepted
 
-  counter-fresh : (v : ℕ) → 0 < v → v < l → counterAt (fresh n l g b) v ≡ freshCounter (names l g b) v
+  pub counter-fresh : (v : ℕ) → 0 < v → v < l → counterAt (fresh n l g b) v ≡ freshCounter (names l g b) v
   unfolding fresh freshCounterAt
   counter-fresh v low k =
       getD-tabulate 16 (freshCounterAt l (names l g b)) v 0 (omega (arith, leaves-high l (limits .leaves)))
       ∙ rw (lt-ltb 0 v low, lt-ltb v l k)
 
-  process-fresh : (p : ℕ) → p < n → processAt (fresh n l g b) p ≡ freshProcess
+  pub process-fresh : (p : ℕ) → p < n → processAt (fresh n l g b) p ≡ freshProcess
   unfolding fresh freshProcessAt
   process-fresh p k =
       getD-tabulate 64 (freshProcessAt n) p noProcess (omega (arith, limits .n64)) ∙ rw (lt-ltb p n k)

@@ -1,0 +1,4 @@
+-- Facts that mention no machine.
+pub mod Sums
+pub mod Computed
+pub mod Tree

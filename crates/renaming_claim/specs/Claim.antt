@@ -1,0 +1,48 @@
+-- Demand 3: what holds after every list of events from an accepted setup of N processes (handsets), L leaves, g segments (rows)
+-- and b bits. A list has any length and its events are any two numbers, refused ones included. The machine is fed the four
+-- numbers and the events alone; its stages say who is admitted (let in), in getname (claiming), working (holding) or exhausted
+-- (astray).
+use mathlib.Core.Path.{_≡_}
+use mathlib.Core.Logic.{_≢_}
+use mathlib.Core.List.{List}
+use Prim.Native.Nat.{ℕ, _+_, _≤_, _<_}
+use lib.ListN.{length, take}
+use Rattle.machine.specs.Admitted.{admitted}
+use Rattle.machine.specs.Lists.{Event, after}
+use Rattle.machine.specs.Setup.{names, height}
+use Rattle.machine.specs.Stage.{getname, working, exhausted}
+use Rattle.machine.specs.State.{processAt, fresh}
+use Rattle.machine.specs.declared.Process.{Process}
+use Rattle.machine.specs.declared.State.{State}
+use Rattle.renaming_claim.specs.History.{claimSteps, stepsGiven, HoldsWithin}
+
+module _ (n l g b : ℕ) where
+  -- the state after a list, and a process in it
+  abbrev pub afterList : List Event → State
+  afterList es = after (fresh n l g b) es
+
+  abbrev pub processAfter : List Event → ℕ → Process
+  processAfter es p = processAt (afterList es) p
+
+  pub record Claim (es : List Event) : Type 0 where
+    -- At most k handsets are let in.
+    pub admitted-k : admitted (afterList es) ≤ names l g b
+    -- Holders' pads are below k
+    pub held-below : (p : ℕ) → p < n → processAfter es p .stage ≡ working → processAfter es p .name < names l g b
+    -- and all unlike.
+    pub held-unlike : (p q : ℕ) → p < n → q < n → p ≢ q → processAfter es p .stage ≡ working → processAfter es q .stage ≡ working
+        → processAfter es p .name ≢ processAfter es q .name
+    -- No handset is astray.
+    pub none-astray : (p : ℕ) → p < n → processAfter es p .stage ≢ exhausted
+    -- If at no moment in the list (its start, and directly after each event) were more than m let in, every held pad is below m.
+    pub held-low : (m : ℕ) → ((i : ℕ) → i ≤ length es → admitted (afterList (take i es)) ≤ m)
+        → (p : ℕ) → p < n → processAfter es p .stage ≡ working → processAfter es p .name < m
+    -- Each handset's spent is the number of its claim turns since its last accepted ask; before its first there are none.
+    pub steps-counted : (p : ℕ) → p < n → processAfter es p .steps ≡ claimSteps p (fresh n l g b) es 0
+    -- A holder's is at least h + 1 and at most h + g.
+    pub steps-least : (p : ℕ) → p < n → processAfter es p .stage ≡ working → height l + 1 ≤ processAfter es p .steps
+    pub steps-most : (p : ℕ) → p < n → processAfter es p .stage ≡ working → processAfter es p .steps ≤ height l + g
+    -- Whatever events follow, once a handset that is claiming after the list has been given h + g more turns, it held a pad
+    -- directly after one of them.
+    pub wins : (p : ℕ) → p < n → processAfter es p .stage ≡ getname → (fs : List Event) → height l + g ≤ stepsGiven p fs
+        → HoldsWithin (height l + g) (afterList es) p fs

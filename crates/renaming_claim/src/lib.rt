@@ -1,0 +1,1 @@
+// The claim over every list of events: no code. Read specs/Claim.antt first.
