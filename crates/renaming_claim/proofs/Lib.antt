@@ -15,3 +15,4 @@ pub mod Implies
 pub mod Sound
 pub mod Along
 pub mod Theorem
+pub mod Controls
