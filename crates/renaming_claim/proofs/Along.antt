@@ -27,11 +27,8 @@ use Rattle.renaming_claim.specs.History.{stepOf, claimSteps, stepsGiven,
 use Rattle.renaming_claim.proofs.Implies.Names.{not-exhausted}
 use Rattle.renaming_claim.proofs.Implies.Steps.{fewer-steps}
 use Rattle.renaming_claim.proofs.Mover.{Mover}
-use Rattle.renaming_claim.proofs.Sound.{Sound, event-sound}
+use Rattle.renaming_claim.proofs.Sound.{Sound, mover, event-sound}
 use Rattle.renaming_claim.proofs.Steps.{claim-accepted, claim-next, getname-steps, claim-waits, event-steps}
-
-mover : {s : State} {p : ℕ} → Sound s → p < s .processes → Mover (s .processes) s p
-mover k l = record { reach = k .reach; inv = k .inv; known = l }
 
 -- a process stays one, and the bound on its steps stays
 module _ (s : State) (e : Event) where

@@ -2,6 +2,7 @@
 -- numbers stay. Assumes nothing.
 use mathlib.Core.Path.{_≡_, refl, ap, _∙_}
 use mathlib.Core.List.{List, [], _∷_}
+use Prim.Native.Nat.{ℕ, _<_}
 use native.Mathlib.Omega.{arith}
 use Rattle.machine.specs.Lists.{Event, eventDone, after}
 use Rattle.machine.specs.Setup.{Setup}
@@ -10,12 +11,17 @@ use Rattle.machine.specs.declared.State.{State}
 use Rattle.machine.proofs.Laws.OnePlace.{setup-unchanged}
 use Rattle.renaming_claim.proofs.Implies.Names.{admitted-all}
 use Rattle.renaming_claim.proofs.Invariant.{Invariant, Reachable}
+use Rattle.renaming_claim.proofs.Mover.{Mover}
 use Rattle.renaming_claim.proofs.Preserved.{event-reachable, event-keeps}
 
 -- a reachable state that keeps the invariant so
 pub record Sound (s : State) : Type 0 where
   pub reach : Reachable s
   pub inv : Invariant (s .processes) s
+
+-- a process of such a state
+pub mover : {s : State} {p : ℕ} → Sound s → p < s .processes → Mover (s .processes) s p
+mover k l = record { reach = k .reach; inv = k .inv; known = l }
 
 pub event-sound : (s : State) → Sound s → (e : Event) → Sound (eventDone s e .state)
 event-sound s k e =

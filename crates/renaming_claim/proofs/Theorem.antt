@@ -19,9 +19,8 @@ use Rattle.renaming_claim.proofs.Along.{list-steps, list-wins}
 use Rattle.renaming_claim.proofs.Implies.Names.{admitted-few, not-exhausted, name-below, name-low, names-unlike}
 use Rattle.renaming_claim.proofs.Implies.Steps.{least-steps, most-steps}
 use Rattle.renaming_claim.proofs.Invariant.{Invariant}
-use Rattle.renaming_claim.proofs.Mover.{Mover}
 use Rattle.renaming_claim.proofs.Preserved.{list-keeps}
-use Rattle.renaming_claim.proofs.Sound.{Sound, list-sound, list-setup}
+use Rattle.renaming_claim.proofs.Sound.{Sound, mover, list-sound, list-setup}
 use Rattle.renaming_claim.proofs.Start.{start-reachable, start-holds}
 
 module _ (n l g b : ℕ) (accepted : setupAnswer n l g b ≡ 0) where
@@ -58,9 +57,6 @@ module _ (n l g b : ℕ) (accepted : setupAnswer n l g b ≡ 0) where
     known : (p : ℕ) → p < n → p < t .processes
     known p k = omega (arith, processes-are)
 
-    mover : (p : ℕ) → p < n → Mover (t .processes) t p
-    mover p k = record { reach = sound .reach; inv = sound .inv; known = known p k }
-
     -- with M any bound on how many are admitted at a moment of the list
     low : (m : ℕ) → ((i : ℕ) → i ≤ length es → admitted (after s (take i es)) ≤ m) → Invariant m t
     low m few = list-keeps m s (start-reachable n l g b accepted) (start-holds n l g b accepted m) es few
@@ -79,7 +75,7 @@ module _ (n l g b : ℕ) (accepted : setupAnswer n l g b ≡ 0) where
         none-astray = λ p k. not-exhausted (sound es .reach) (sound es .inv) p (known es p k);
         held-low = λ m few p k e. name-low (sound es .reach) (low es m few) p (known es p k) e;
         steps-counted = counted es;
-        steps-least = λ p k e. omega (arith, least-steps (mover es p k) e, height-is es);
-        steps-most = λ p k e. omega (arith, most-steps (mover es p k), bound-is es);
+        steps-least = λ p k e. omega (arith, least-steps (mover (sound es) (known es p k)) e, height-is es);
+        steps-most = λ p k e. omega (arith, most-steps (mover (sound es) (known es p k)), bound-is es);
         wins = λ p k e fs given. list-wins (height l + g) (t es) (sound es) p (known es p k) e fs (omega (arith, bound-is es)) given;
       }
