@@ -4,9 +4,10 @@ use mathlib.Core.List.{List, _++_}
 use Prim.Native.Nat.{ℕ}
 use lib.ListN.{take}
 use Rattle.machine.specs.Lists.{Event, eventsOf, after, journal}
-use Rattle.machine.specs.Operations.{Applied, setFirstZero, boundedDecrement}
+use Rattle.machine.specs.Operations.{setFirstZero, boundedDecrement}
 use Rattle.machine.specs.Setup.{names}
 use Rattle.machine.specs.State.{done, none, processAt, fresh, blank, setup}
+use Rattle.machine.specs.declared.Applied.{Applied}
 use Rattle.machine.proofs.Runs.{machine, ask, turn, finish, line}
 
 -- an operation's answer, and the word that it leaves

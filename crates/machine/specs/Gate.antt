@@ -20,9 +20,12 @@ lowered s = withGate (predℤ (s .gate)) s
 abbrev pub raised : State → State
 raised s = withGate (sucℤ (s .gate)) s
 
--- the process is in the queue
-unfoldable pub inQueue : State → ℕ → Bool
-inQueue s p = anyBelow (s .queued) (λ i. eqb (getD (s .queue) i 0) p)
+-- the process is among the first n of a list; it is in the queue
+unfoldable pub among : List ℕ → ℕ → ℕ → Bool
+among q n p = anyBelow n (λ i. eqb (getD q i 0) p)
+
+abbrev pub inQueue : State → ℕ → Bool
+inQueue s p = among (s .queue) (s .queued) p
 
 -- the process joins the queue's end
 abbrev pub joined : ℕ → State → State

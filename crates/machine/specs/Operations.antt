@@ -2,11 +2,7 @@
 use mathlib.Core.Bool.{cond}
 use Prim.Native.Nat.{ℕ, zero, suc, _+_, _-_, _/_, _%_, _^_}
 use lib.Dec.{ltb, eqb}
-
--- what an operation answers, and the word that it leaves
-pub record Applied : Type 0 where
-  pub answer : ℕ
-  pub word : ℕ
+use Rattle.machine.specs.declared.Applied.{Applied}
 
 abbrev pub bit : ℕ → ℕ → ℕ
 bit w i = w / 2 ^ i % 2

@@ -33,6 +33,13 @@ pub struct Done {
     pub state: State,
 }
 
+// What an atomic operation answers, and the word that it leaves.
+#[repr(C)]
+pub struct Applied {
+    pub answer: u8,
+    pub word: u8,
+}
+
 // What one getname step does: it goes left or right to a node, wins a name, moves to a segment, or finds none left
 // (document 01: goes left, goes right, wins a bit, changes row or strays).
 pub enum ClaimStep {

@@ -22,7 +22,7 @@ use lib.Seq.{getD-set-same, getD-set-other}
 use borrow.Author.Tests.{ne-eqb, lt-ltb, le-leb, lt-leb, ltb-true}
 use Rattle.machine.specs.Admitted.{isAdmitted, admitted}
 use Rattle.machine.specs.Below.{allBelow, anyBelow, sumBelow, indicator as ind}
-use Rattle.machine.specs.Gate.{above0, inQueue, movedUp, headGone}
+use Rattle.machine.specs.Gate.{above0, among, inQueue, movedUp, headGone}
 use Rattle.machine.specs.Setup.{Setup, names}
 use Rattle.machine.specs.State.{setupOf, processAt, noProcess}
 use Rattle.machine.specs.declared.Process.{Process}
@@ -45,7 +45,7 @@ any-is (suc n) f = go (f n) (allBelow n (λ i. not (f i))) (any-is n f)
     go false a e = rw add-zero e
 
 pub queue-is : (s : State) (p : ℕ) → inQueue s p ≡ ltb 0 (occurs (s .queue) (s .queued) p)
-unfolding inQueue occurs
+unfolding among occurs
 queue-is s p = any-is (s .queued) (λ i. eqb (getD (s .queue) i 0) p)
 
 occurs-join : (q : List ℕ) (n p x : ℕ) → n < length q → occurs (set q n p) (n + 1) x ≡ occurs q n x + ind (eqb p x)

@@ -87,7 +87,7 @@ module _ {s : State} (ranges : Ranges s) (p : ℕ) (l : p < s .processes) where
       (λ _. update-alike p l (withStage waiting) (queue-alike _ _ (gate-alike _ a)))
 
   await-alike : {t : State} → Alike s t → Alike (await s p) (await t p)
-  unfolding await inQueue
+  unfolding await
   await-alike (alike cs ws ps c w k) =
       let a : Alike s (withArrays cs ws ps s) = alike cs ws ps c w k in
       cond-alike (inQueue s p) (λ _. a) (λ _. update-alike p l (withStage getname) a)
