@@ -1,15 +1,17 @@
 -- A test of every number below a bound says that each of them passes, and a tabulated list has the function's value at each
 -- place: by induction on the bound.
 --     all-in, all-at                    the test from its instances, and an instance from the test
+--     all-more, all-fails               one number more, and a test that one number fails
 --     all-same                          two tests that agree on each number
 --     length-tabulate, getD-tabulate    a tabulated list
 -- At a numeral bound the test computes, so that `refl` proves it and `all-at` turns it into a law.
 -- Assumes nothing.
-use mathlib.Core.Path.{_≡_, refl, _∙_, ap}
-use mathlib.Core.Bool.{Bool, true}
+use mathlib.Core.Path.{_≡_, refl, sym, _∙_, ap}
+use mathlib.Core.Bool.{Bool, true, false, _&&_, and-false}
 use mathlib.Core.Logic.{⊎-elim}
-use Prim.Native.Nat.{ℕ, zero, suc, _<_}
+use Prim.Native.Nat.{ℕ, zero, suc, _+_, _<_}
 use native.Mathlib.Nat.{not-suc-le-zero, eq-or-lt-of-le, le-of-suc-le-suc}
+use native.Mathlib.Numerals.{add-one}
 use native.Mathlib.Omega.{arith}
 use lib.ListN.{length, getD, replicate}
 use Rattle.machine.specs.Below.{allBelow, tabulate}
@@ -27,6 +29,20 @@ all-at (suc n) f e i l =
     ⊎-elim
     (λ q. ap f q ∙ and-left (f n) (allBelow n f) e)
     (λ k. all-at n f (and-right (f n) (allBelow n f) e) i k)
+    (eq-or-lt-of-le (le-of-suc-le-suc l))
+
+-- for a loop that counts up: one number more, and one that fails
+pub all-more : (i : ℕ) (f : ℕ → Bool) → allBelow i f ≡ true → f i ≡ true → allBelow (i + 1) f ≡ true
+unfolding allBelow
+all-more i f e h = rw add-one (simp (h, e))
+
+pub all-fails : (n : ℕ) (f : ℕ → Bool) (i : ℕ) → i < n → f i ≡ false → allBelow n f ≡ false
+unfolding allBelow
+all-fails zero f i l e = absurd (not-suc-le-zero l)
+all-fails (suc n) f i l e =
+    ⊎-elim
+    (λ q. ap (λ (t : Bool). t && allBelow n f) (ap f (sym q) ∙ e))
+    (λ k. ap (λ (t : Bool). f n && t) (all-fails n f i k e) ∙ and-false (f n))
     (eq-or-lt-of-le (le-of-suc-le-suc l))
 
 pub all-same : (n : ℕ) (f g : ℕ → Bool) → ((i : ℕ) → i < n → f i ≡ g i) → allBelow n f ≡ allBelow n g

@@ -29,7 +29,7 @@ gate-rises k (pos n) e = refl
 gate-rises k (negsuc zero) e = le-leb 0 k (omega arith)
 gate-rises k (negsuc (suc n)) e = lt-ltb n 64 (omega (arith, ltb-true (suc n) 64 e))
 
-above-falls : (a : ℤ) → above0 a ≡ true → canFall a ≡ true
+pub above-falls : (a : ℤ) → above0 a ≡ true → canFall a ≡ true
 unfolding above0 canFall
 above-falls (pos n) e = refl
 above-falls (negsuc n) e = absurd (false≢true e)

@@ -1,0 +1,21 @@
+-- `wait` meets its contract: the two cases of its definition. Assumes nothing.
+use mathlib.Core.Path.{sym, _∙_}
+use Rattle.operations.specs.Moves.{awaited}
+use Rattle.operations.proofs.Rules.{tests}
+use borrow.Author.Needs.{needs}
+use Rattle.operations.proofs.gate.wait.Statement.{statement}
+use Rattle.operations.proofs.gate.wait.Tie as tie
+
+in-queue-requires : tie.Need-in-queue-requires
+in-queue-requires c κs = search needs
+
+returns : tie.Need-returns
+unfolding awaited
+returns c = search (tests, sym (c .before .in-queue .ensures) ∙ c .if1 .taken)
+
+returns-2 : tie.Need-returns-2
+unfolding awaited
+returns-2 c = search (tests, sym (c .before .in-queue .ensures) ∙ c .if1 .left)
+
+pub wait-spec : {M : Type 1} → statement M
+wait-spec = tie.close (tie.spec in-queue-requires returns returns-2)

@@ -1,0 +1,23 @@
+-- `climb` meets its contract: the counter rises below its fresh value, or 15. Assumes nothing.
+use borrow.Author.Tests.{lt-ltb, le-ltb}
+use Rattle.operations.specs.Moves.{climbed}
+use borrow.Author.Needs.{needs}
+use Rattle.operations.proofs.putname.climb.Statement.{statement}
+use Rattle.operations.proofs.putname.climb.Tie as tie
+
+fresh-counter-requires : tie.Need-fresh-counter-requires
+fresh-counter-requires c κs = search needs
+
+add-t8 : tie.Need-add-t8
+add-t8 c = search needs
+
+returns : tie.Need-returns
+unfolding climbed
+returns c = simp (lt-ltb _ _ (rw (c .before .fresh-counter .ensures) at (c .if1 .taken)))
+
+returns-2 : tie.Need-returns-2
+unfolding climbed
+returns-2 c = simp (le-ltb _ _ (rw (c .before .fresh-counter .ensures) at (c .if1 .left)))
+
+pub climb-spec : {M : Type 1} → statement M
+climb-spec = tie.close (tie.spec fresh-counter-requires add-t8 returns returns-2)

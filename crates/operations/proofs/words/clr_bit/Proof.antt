@@ -1,0 +1,29 @@
+-- `clr_bit` meets its contract: the two cases of its definition. Assumes nothing.
+use borrow.Author.Tests.{eq-eqb, ne-eqb}
+use Rattle.machine.specs.Operations.{clrBit}
+use Rattle.operations.proofs.Bytes.{bit-le}
+use borrow.Author.Needs.{needs}
+use Rattle.operations.proofs.words.clr_bit.Statement.{statement}
+use Rattle.operations.proofs.words.clr_bit.Tie as tie
+
+shr-if1 : tie.Need-shr-if1
+shr-if1 c = search needs
+
+power-requires : tie.Need-power-requires
+power-requires c κs = search needs
+
+sub-result : tie.Need-sub-result
+sub-result c =
+    let a = c .before .before .args in
+    rw (c .power .ensures) (bit-le (a .i) (a .w) (c .before .before .pre) (c .before .before .fits .w .fits) (c .before .if1 .taken))
+
+returns : tie.Need-returns
+unfolding clrBit
+returns c = rw (c .power .ensures) (simp (eq-eqb _ _ (c .before .if1 .taken)))
+
+returns-2 : tie.Need-returns-2
+unfolding clrBit
+returns-2 c = simp (ne-eqb _ _ (c .if1 .left))
+
+pub clr-bit-spec : {M : Type 1} → statement M
+clr-bit-spec = tie.close (tie.spec shr-if1 power-requires sub-result returns returns-2)

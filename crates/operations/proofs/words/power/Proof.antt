@@ -1,0 +1,14 @@
+-- `power` meets its contract: 1 shifted by less than eight, computed for each. Assumes nothing.
+use Rattle.operations.proofs.Bytes.{shifted-is}
+use borrow.Author.Needs.{needs}
+use Rattle.operations.proofs.words.power.Statement.{statement}
+use Rattle.operations.proofs.words.power.Tie as tie
+
+shl-result : tie.Need-shl-result
+shl-result c = search needs
+
+returns : tie.Need-returns
+returns c = shifted-is (c .args .i) (c .pre)
+
+pub power-spec : {M : Type 1} → statement M
+power-spec = tie.close (tie.spec shl-result returns)

@@ -1,0 +1,118 @@
+// Stage 3: one getname step at a node or at a leaf.
+use crate::words;
+use machine::ClaimStep;
+use machine::Process;
+ghost use mathlib.Core.Path.{_≡_};
+ghost use Prim.Native.Nat.{_+_, _*_, _≤_, _<_};
+ghost use Rattle.machine.specs.Getname.{claimed, side, outcome};
+ghost use Rattle.operations.specs.Moves.{descended, probed};
+
+// A process record and a shared word after an operation, with its answer.
+pub struct Moved {
+    pub process: Process,
+    pub word: u8,
+    pub answer: u8,
+}
+
+// Left if the counter's old value was above 0, otherwise right.
+fn side_of(v: u8, old: u8) -> ClaimStep
+    requires { ⌜ v < 32 ⌝ }
+    ensures { λ r. ⌜ r ≡ side v old ⌝ }
+{
+    if old > 0 {
+        ClaimStep::Left(2 * v)
+    } else {
+        ClaimStep::Right(2 * v + 1)
+    }
+}
+
+// Won, the next segment, or none left, by the answer m of set_first_zero on segment word r.
+fn outcome_of(g: u8, b: u8, r: u8, i: u8, m: u8) -> ClaimStep
+    requires { ⌜ (i < g) × (r * b + b ≤ 64) ⌝ }
+    ensures { λ c. ⌜ c ≡ outcome g b r i m ⌝ }
+{
+    if m < b {
+        return ClaimStep::Won(r * b + m);
+    }
+    if i + 1 < g {
+        ClaimStep::NextSegment(i + 1)
+    } else {
+        ClaimStep::Exhausted
+    }
+}
+
+// What a getname step makes of the process.
+fn claim(c: ClaimStep, h: Process) -> Process
+    requires { ⌜ h .steps < 255 ⌝ }
+    ensures { λ r. ⌜ r ≡ claimed c h ⌝ }
+{
+    let mut x = h;
+    x.steps = h.steps + 1;
+    match c {
+        ClaimStep::Left(v) => {
+            x.node = v;
+            x
+        }
+        ClaimStep::Right(v) => {
+            x.node = v;
+            x
+        }
+        ClaimStep::Won(m) => {
+            x.stage = 4;
+            x.name = m;
+            x
+        }
+        ClaimStep::NextSegment(i) => {
+            x.segment = i;
+            x
+        }
+        ClaimStep::Exhausted => {
+            x.stage = 6;
+            x
+        }
+    }
+}
+
+// At a node below L: bounded_decrement of its counter c.
+pub fn descend(h: Process, c: u8) -> Moved
+    requires { ⌜ h .node < 32 ⌝ }
+    ensures { λ r. ⌜ r ≡ descended h c ⌝ }
+{
+    if h.steps < 255 {
+        let op = words::bounded_decrement(c);
+        let step = side_of(h.node, op.answer);
+        let x = claim(step, h);
+        return Moved {
+            process: x,
+            word: op.word,
+            answer: 0,
+        };
+    }
+    Moved {
+        process: h,
+        word: c,
+        answer: 15,
+    }
+}
+
+// At a leaf: set_first_zero on its segment word w, the word number r.
+pub fn probe(h: Process, w: u8, r: u8, g: u8, b: u8) -> Moved
+    requires { ⌜ (b ≤ 8) × ((h .segment < g) × (r * b + b ≤ 64)) ⌝ }
+    ensures { λ m. ⌜ m ≡ probed g b r h w ⌝ }
+{
+    if h.steps < 255 {
+        let op = words::set_first_zero(b, w);
+        let step = outcome_of(g, b, r, h.segment, op.answer);
+        let x = claim(step, h);
+        return Moved {
+            process: x,
+            word: op.word,
+            answer: 0,
+        };
+    }
+    Moved {
+        process: h,
+        word: w,
+        answer: 15,
+    }
+}
