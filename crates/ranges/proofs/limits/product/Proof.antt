@@ -1,0 +1,17 @@
+use native.Mathlib.Omega.{arith}
+use native.Mathlib.Nat.{mul-le-mul}
+use borrow.Author.Needs.{needs}
+use Rattle.ranges.proofs.limits.product.Statement.{statement}
+use Rattle.ranges.proofs.limits.product.Tie as tie
+
+mul-result : tie.Need-mul-result
+mul-result c = omega (arith, mul-le-mul (c .pre .0) (c .pre .1 .0))
+
+mul-result-2 : tie.Need-mul-result-2
+mul-result-2 c = omega (arith, mul-le-mul (mul-le-mul (c .pre .0) (c .pre .1 .0)) (c .pre .1 .1))
+
+returns : tie.Need-returns
+returns c = search needs
+
+pub product-spec : {M : Type 1} → statement M
+product-spec = tie.close (tie.spec mul-result mul-result-2 returns)
