@@ -43,7 +43,7 @@ events-length [] = refl
 events-length (k ∷ []) = refl
 events-length (k ∷ p ∷ bytes) = omega (arith, events-length bytes)
 
-entry-length : (s : State) (e : Event) → length (entryOf s e) ≡ 4
+pub entry-length : (s : State) (e : Event) → length (entryOf s e) ≡ 4
 unfolding entryOf
 entry-length s e =
     let a : ℕ = eventDone s e .answer in

@@ -1,0 +1,126 @@
+-- One event of the runner, arm by arm: what the code stored is what the event does at its place, since each operation is the
+-- machine's. Assumes nothing.
+use mathlib.Core.Path.{_≡_, sym, ap, _∙_}
+use mathlib.Core.List.{List, [], _∷_}
+use Prim.Native.Nat.{ℕ, _≤_, _<_}
+use native.Mathlib.Omega.{arith}
+use lib.IntN.{ℤ}
+use lib.ListN.{length, length-set}
+use lib.Seq.{getD-set-same}
+use Rattle.machine.specs.Event.{event}
+use Rattle.machine.specs.Lists.{entryOf}
+use Rattle.machine.specs.Operations.{clrBit}
+use Rattle.machine.specs.State.{done, none, noProcess, processAt, counterAt, wordAt, namesOf, withName, withGate, withQueue, withCounter, withWord, withProcess}
+use Rattle.machine.specs.declared.Done.{Done}
+use Rattle.machine.specs.declared.Process.{Process}
+use Rattle.machine.specs.declared.State.{State}
+use Rattle.machine.proofs.Laws.Answers.{kind-refused, stranger-refused}
+use Rattle.machine.proofs.Laws.OnePlace.{sized-kept}
+use Rattle.machine.proofs.Ranges.{in-range}
+use Rattle.operations.proofs.ByPlace.{event-at}
+use Rattle.operations.specs.Moves.{entered, enteredQueue, awaited, descended, probed, climbed, left, leftQueue}
+use Rattle.operations.specs.Places.{placeOf, doneAt}
+use Rattle.operations.specs.declared.gate.Gated.{Gated}
+use Rattle.operations.specs.declared.getname.Moved.{Moved}
+use Rattle.operations.specs.declared.place.Place.{Place}
+use Rattle.operations.specs.declared.place.Place.the-variants.{Own, Gate, Queue, Counter, Segment, Bit, Parent, Root}
+use Rattle.renaming.specs.Entries.{isNameless, entryBytes}
+use Rattle.renaming.proofs.Checked.{Checked}
+
+-- the event's answer is a, and the state t with the process record x stored is its state
+abbrev pub Stored : State → ℕ → ℕ → State → Process → ℕ → Type 0
+Stored s kind p t x a = event s kind p ≡ done a (withProcess p x t)
+
+-- the same by other names
+pub stored-as : (s : State) (kind p : ℕ) {t t′ : State} {x x′ : Process} {a a′ : ℕ}
+    → t ≡ t′ → x ≡ x′ → a ≡ a′ → Stored s kind p t′ x′ a′ → Stored s kind p t x a
+stored-as s kind p e f g h = rw (e, f, g) h
+
+module _ (s : State) (kind p : ℕ) (c : Checked s) (k2 : kind ≤ 2) (kp : p < s .processes) where
+  abbrev h : Process
+  h = processAt s p
+
+  abbrev place : Place
+  place = placeOf kind (s .leaves) (s .segments) (s .bits) h
+
+  at-place : {x : Place} → place ≡ x → event s kind p ≡ doneAt x s p
+  at-place e = event-at s kind p (c .sized) (c .ranges) k2 kp ∙ ap (λ (x : Place). doneAt x s p) e
+
+  pub own : (x : Process) (a : ℕ) → place ≡ Own x a → Stored s kind p s x a
+  unfolding doneAt
+  own x a e = at-place e
+
+  -- the gate and its queue stored, with the gate word as the code has it
+  abbrev gateStored : Gated → List ℕ → ℤ → Done
+  gateStored m q z = done (m .answer) (withProcess p (m .process) (withQueue (m .queued) q (withGate z s)))
+
+  gate-as : (m m′ : Gated) (q q′ : List ℕ) (z : ℤ) → m ≡ m′ → q ≡ q′ → z ≡ m .gate → gateStored m′ q′ (m′ .gate) ≡ gateStored m q z
+  gate-as m m′ q q′ z em eq ez =
+      ap (λ (n : Gated). gateStored n q′ (n .gate)) (sym em)
+      ∙ ap (λ (r : List ℕ). gateStored m r (m .gate)) (sym eq)
+      ∙ ap (gateStored m q) (sym ez)
+
+  -- the gate word is z before and z′ afterwards
+  pub gate : (m : Gated) (q : List ℕ) (z z′ : ℤ) → place ≡ Gate → z ≡ s .gate → z′ ≡ m .gate
+      → m ≡ entered h z (s .queued) → q ≡ enteredQueue z (s .queued) p (s .queue)
+      → Stored s kind p (withQueue (m .queued) q (withGate z′ s)) (m .process) (m .answer)
+  unfolding doneAt
+  gate m q z z′ e ez ez′ em eq =
+      at-place e
+      ∙ gate-as m _ q _ z′ (em ∙ ap (λ (y : ℤ). entered h y (s .queued)) ez) (eq ∙ ap (λ (y : ℤ). enteredQueue y (s .queued) p (s .queue)) ez) ez′
+
+  pub queue : (x : Process) → place ≡ Queue → x ≡ awaited (s .queue) (s .queued) p h → Stored s kind p s x 0
+  unfolding doneAt
+  queue x e ex = simp ex (at-place e)
+
+  pub counter : (m : Moved) (v : ℕ) → place ≡ Counter v → m ≡ descended h (counterAt s v)
+      → Stored s kind p (withCounter v (m .word) s) (m .process) (m .answer)
+  unfolding doneAt
+  counter m v e em = simp em (at-place e)
+
+  pub segment : (m : Moved) (r : ℕ) → place ≡ Segment r → m ≡ probed (s .segments) (s .bits) r h (wordAt s r)
+      → Stored s kind p (withWord r (m .word) s) (m .process) (m .answer)
+  unfolding doneAt
+  segment m r e em = simp em (at-place e)
+
+  pub bit : (w r i : ℕ) → place ≡ Bit r i → w ≡ clrBit (wordAt s r) i → Stored s kind p (withWord r w s) (withName none h) 0
+  unfolding doneAt
+  bit w r i e ew = simp ew (at-place e)
+
+  pub parent : (m : Moved) (u : ℕ) → place ≡ Parent u → m ≡ climbed (namesOf s) u h (counterAt s u)
+      → Stored s kind p (withCounter u (m .word) s) (m .process) (m .answer)
+  unfolding doneAt
+  parent m u e em = simp em (at-place e)
+
+  pub root : (m : Gated) (q : List ℕ) (z z′ : ℤ) → place ≡ Root → z ≡ s .gate → z′ ≡ m .gate
+      → m ≡ left (namesOf s) h z (s .queued) → q ≡ leftQueue (namesOf s) z (s .queued) (s .queue)
+      → Stored s kind p (withQueue (m .queued) q (withGate z′ s)) (m .process) (m .answer)
+  unfolding doneAt
+  root m q z z′ e ez ez′ em eq =
+      at-place e
+      ∙ gate-as m _ q _ z′ (em ∙ ap (λ (y : ℤ). left (namesOf s) h y (s .queued)) ez) (eq ∙ ap (λ (y : ℤ). leftQueue (namesOf s) y (s .queued) (s .queue)) ez) ez′
+
+  -- the journal entry of the event
+  pub wrote : (t : State) (x : Process) (a : ℕ) → Stored s kind p t x a → entryBytes a x ≡ entryOf s (record { kind = kind; process = p })
+  unfolding entryBytes entryOf isNameless
+  wrote t x a e =
+      let n : length (event s kind p .state .process) ≡ 64 = sized-kept s kind p (c .sized) .process in
+      let n′ : length (t .process) ≡ 64 = sym (length-set (t .process) p x) ∙ sym (ap (λ (d : Done). length (d .state .process)) e) ∙ n in
+      let l : p < length (t .process) = omega (arith, n′, kp, c .ranges .limits .n64) in
+      rw (e, getD-set-same (t .process) p x noProcess l)
+
+-- an unknown kind and a stranger: the state, and the entry
+module _ (s : State) (kind p : ℕ) (c : Checked s) where
+  pub kind-done : 2 < kind → event s kind p ≡ done 12 s
+  kind-done k = kind-refused s kind p (in-range s (c .ranges)) k
+
+  pub stranger-done : kind ≤ 2 → s .processes ≤ p → event s kind p ≡ done 6 s
+  stranger-done k l = stranger-refused s kind p (in-range s (c .ranges)) k l
+
+  pub kind-wrote : 2 < kind → 12 ∷ 255 ∷ 255 ∷ 255 ∷ [] ≡ entryOf s (record { kind = kind; process = p })
+  unfolding entryOf
+  kind-wrote k = rw (kind-done k)
+
+  pub stranger-wrote : kind ≤ 2 → s .processes ≤ p → 6 ∷ 255 ∷ 255 ∷ 255 ∷ [] ≡ entryOf s (record { kind = kind; process = p })
+  unfolding entryOf
+  stranger-wrote k l = rw (stranger-done k l)

@@ -1,0 +1,2 @@
+-- What the journal's code writes.
+pub mod Entries
