@@ -1,0 +1,5 @@
+-- What the functions' proofs share.
+pub mod Accepted
+pub mod GateWord
+pub mod Masks
+pub mod Verdict

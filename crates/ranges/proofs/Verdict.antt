@@ -1,0 +1,19 @@
+-- A list of tests fails with any one of them, by induction on the list; and past the tests that pass, the last one decides.
+-- Assumes nothing.
+use mathlib.Core.Path.{_≡_, sym, _∙_, ap}
+use mathlib.Core.Bool.{Bool, true, false, _&&_, and-true, and-false, false≢true}
+use mathlib.Core.List.{List, [], _∷_}
+use Prim.Native.Nat.{ℕ, zero, suc}
+use lib.ListN.{getD}
+use Rattle.machine.specs.Check.{allOf}
+
+pub one-fails : (ts : List Bool) (i : ℕ) → getD ts i true ≡ false → allOf ts ≡ false
+one-fails [] i e = absurd (false≢true (sym e))
+one-fails (t ∷ ts) zero e = ap (λ (u : Bool). u && allOf ts) e
+one-fails (t ∷ ts) (suc i) e = ap (λ (u : Bool). t && u) (one-fails ts i e) ∙ and-false t
+
+pub passes : {r t u : Bool} → t ≡ true → r ≡ u → r ≡ (t && u)
+passes {r} {t} {u} e h = rw e h
+
+pub decides : {r t : Bool} → r ≡ t → r ≡ (t && true)
+decides {r} {t} h = h ∙ sym (and-true t)
