@@ -1,5 +1,6 @@
 -- The laws of the definitions, one field each, and `laws`, which proves them all. Each is proved in the file that its line names.
 -- Assumes nothing.
+pub mod Setup
 pub mod Fresh
 pub mod Answers
 pub mod OnePlace
@@ -21,7 +22,7 @@ use Rattle.machine.specs.Operations.{bit, firstZero, clrBit}
 use Rattle.machine.specs.Putname.{putnameStep}
 use Rattle.machine.specs.Range.{inRange}
 use Rattle.machine.specs.Setup.{isLeaves, setupAnswer, height}
-use Rattle.machine.specs.State.{done, depth, setupOf, processAt, counterAt, wordAt, fresh, blank}
+use Rattle.machine.specs.State.{done, depth, setupOf, processAt, counterAt, wordAt, fresh, blank, setup}
 use Rattle.machine.specs.declared.State.{State}
 use Rattle.machine.proofs.Facts.Leaves.{height-is, depth-root, depth-left, depth-right}
 use Rattle.machine.proofs.Facts.Words.{first-zero-clear, first-zero-below, set-bit-same, set-bit-other, clr-bit-same, clr-bit-other}
@@ -33,6 +34,7 @@ use Rattle.machine.proofs.Laws.Room.{enterRoom, getnameRoom, putnameRoo
 use Rattle.machine.proofs.Laws.Room.Gate.{enter-room, await-room}
 use Rattle.machine.proofs.Laws.Room.Getname.{getname-room}
 use Rattle.machine.proofs.Laws.Room.Putname.{putname-room}
+use Rattle.machine.proofs.Laws.Setup.{setup-answers, setup-refused, setup-accepted}
 use Rattle.machine.proofs.Laws.Steps.{steps-reset, head-leaves}
 use Rattle.machine.proofs.Laws.Unread.{Alike, Same, event-alike}
 use Rattle.machine.proofs.Ranges.{ranges-of}
@@ -54,6 +56,10 @@ pub record Laws : Type 0 where
   -- clr_bit clears its bit and changes no other
   pub clr-same : (w i : ℕ) → bit (clrBit w i) i ≡ 0
   pub clr-other : (w i j : ℕ) → j ≢ i → bit (clrBit w i) j ≡ bit w j
+  -- a setup answers 0 or its refusal's number; it gives the fresh state or, refused, the blank one
+  pub answers-0-to-5 : (n l g b : ℕ) → setup n l g b .answer ≡ setupAnswer n l g b
+  pub accepted-setup : (n l g b : ℕ) → setupAnswer n l g b ≡ 0 → setup n l g b ≡ done 0 (fresh n l g b)
+  pub refused-setup : (n l g b : ℕ) → setupAnswer n l g b ≢ 0 → setup n l g b ≡ done (setupAnswer n l g b) blank
   -- the fresh state of every accepted setup is in range, its arrays of their lengths; the blank state is not in range
   pub fresh-state : (n l g b : ℕ) → setupAnswer n l g b ≡ 0 → inRange (fresh n l g b) ≡ true
   pub fresh-lengths : (n l g b : ℕ) → Sized (fresh n l g b)
@@ -107,6 +113,9 @@ laws =
       set-other = set-bit-other;
       clr-same = clr-bit-same;
       clr-other = clr-bit-other;
+      answers-0-to-5 = setup-answers;
+      accepted-setup = setup-accepted;
+      refused-setup = setup-refused;
       fresh-state = fresh-in-range;
       fresh-lengths = fresh-sized;
       blank-state = blank-out-of-range;

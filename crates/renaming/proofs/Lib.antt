@@ -4,3 +4,5 @@ pub mod Checked
 pub mod Used
 pub mod Arms
 pub mod Going
+pub mod OneEvent
+pub mod Signs

@@ -1,3 +1,7 @@
-// The calls on the finish box's state.
-pub mod journal;
-pub mod runner;
+// The calls on the finish box's state. Each refuses bad input with document 01's number and gives the state after the call by value.
+pub mod event;
+mod journal;
+pub mod list;
+pub mod report;
+mod runner;
+pub mod setup;

@@ -1,0 +1,48 @@
+// One event: request (document 01: ask), step (turn), release (finish).
+use crate::runner;
+use machine::Done;
+use machine::State;
+use ranges::range;
+ghost use mathlib.Core.Path.{_≡_};
+ghost use Rattle.machine.specs.Event;
+
+// Kind 0 requests, 1 steps, 2 releases. 15 for the state, 12 for the kind, 6 for the process, then what the event answers.
+#[no_mangle]
+pub extern "C" fn event(state: State, kind: u8, process: u8) -> Done
+    ensures { λ r. ⌜ r ≡ Event.event state kind process ⌝ }
+{
+    if !range::in_range(state) {
+        return Done {
+            answer: 15,
+            state: state,
+        };
+    }
+    let list = [kind, process];
+    let mut entry = [0u8; 4];
+    let after = runner::run_checked(state, &list, &mut entry);
+    Done {
+        answer: entry[0],
+        state: after,
+    }
+}
+
+#[no_mangle]
+pub extern "C" fn request(state: State, process: u8) -> Done
+    ensures { λ r. ⌜ r ≡ Event.event state 0 process ⌝ }
+{
+    event(state, 0, process)
+}
+
+#[no_mangle]
+pub extern "C" fn step(state: State, process: u8) -> Done
+    ensures { λ r. ⌜ r ≡ Event.event state 1 process ⌝ }
+{
+    event(state, 1, process)
+}
+
+#[no_mangle]
+pub extern "C" fn release(state: State, process: u8) -> Done
+    ensures { λ r. ⌜ r ≡ Event.event state 2 process ⌝ }
+{
+    event(state, 2, process)
+}
