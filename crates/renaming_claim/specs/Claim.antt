@@ -16,17 +16,18 @@ use Rattle.machine.specs.declared.Process.{Process}
 use Rattle.machine.specs.declared.State.{State}
 use Rattle.renaming_claim.specs.History.{claimSteps, stepsGiven, HoldsWithin}
 
-module _ (n l g b : ℕ) where
-  -- the state after a list, and a process in it
-  abbrev pub afterList : List Event → State
-  afterList es = after (fresh n l g b) es
+-- the machine's state after a list
+abbrev pub afterList : ℕ → ℕ → ℕ → ℕ → List Event → State
+afterList n l g b es = after (fresh n l g b) es
 
+-- said of what gives the state after a list and after each of its prefixes: the machine, or the calls (crate whole_list)
+module _ (n l g b : ℕ) (stateAfter : List Event → State) where
   abbrev pub processAfter : List Event → ℕ → Process
-  processAfter es p = processAt (afterList es) p
+  processAfter es p = processAt (stateAfter es) p
 
   pub record Claim (es : List Event) : Type 0 where
     -- At most k handsets are let in.
-    pub admitted-k : admitted (afterList es) ≤ names l g b
+    pub admitted-k : admitted (stateAfter es) ≤ names l g b
     -- Holders' pads are below k
     pub held-below : (p : ℕ) → p < n → processAfter es p .stage ≡ working → processAfter es p .name < names l g b
     -- and all unlike.
@@ -35,7 +36,7 @@ module _ (n l g b : ℕ) where
     -- No handset is astray.
     pub none-astray : (p : ℕ) → p < n → processAfter es p .stage ≢ exhausted
     -- If at no moment in the list (its start, and directly after each event) were more than m let in, every held pad is below m.
-    pub held-low : (m : ℕ) → ((i : ℕ) → i ≤ length es → admitted (afterList (take i es)) ≤ m)
+    pub held-low : (m : ℕ) → ((i : ℕ) → i ≤ length es → admitted (stateAfter (take i es)) ≤ m)
         → (p : ℕ) → p < n → processAfter es p .stage ≡ working → processAfter es p .name < m
     -- Each handset's spent is the number of its claim turns since its last accepted ask; before its first there are none.
     pub steps-counted : (p : ℕ) → p < n → processAfter es p .steps ≡ claimSteps p (fresh n l g b) es 0
@@ -45,4 +46,4 @@ module _ (n l g b : ℕ) where
     -- Whatever events follow, once a handset that is claiming after the list has been given h + g more turns, it held a pad
     -- directly after one of them.
     pub wins : (p : ℕ) → p < n → processAfter es p .stage ≡ getname → (fs : List Event) → height l + g ≤ stepsGiven p fs
-        → HoldsWithin (height l + g) (afterList es) p fs
+        → HoldsWithin (height l + g) (stateAfter es) p fs

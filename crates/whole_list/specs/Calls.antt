@@ -1,0 +1,52 @@
+-- Chains of calls. A call is known by what its own contract lets a caller learn (the generated Reads), and by nothing else; each
+-- call of a chain is lent the state that the call before it gave, refused or not.
+use mathlib.Core.List.{List, [], _∷_, _++_}
+use Prim.Native.Nat.{ℕ, zero, suc}
+use contract.Lifetimes.{Lfts}
+use denote.Ref.{RefT}
+use Rattle.machine.specs.Lists.{Event}
+use Rattle.machine.specs.State.{processAt}
+use Rattle.machine.specs.declared.Done.{Done}
+use Rattle.machine.specs.declared.State.{State}
+use Rattle.renaming.specs.Entries.{entryBytes}
+use Rattle.renaming.proofs.setup.setup.Reads as setup-reads
+use Rattle.renaming.proofs.event.event.Reads as event-reads
+use Rattle.renaming.proofs.event.request.Reads as request-reads
+use Rattle.renaming.proofs.event.step.Reads as step-reads
+use Rattle.renaming.proofs.event.release.Reads as release-reads
+use Rattle.renaming.proofs.list.run.Reads as run-reads
+
+-- `setup(n, l, g, b)` gave d
+abbrev pub SetUp : ℕ → ℕ → ℕ → ℕ → Done → Type 0
+SetUp n l g b d = setup-reads.Learnt tt (n, (l, (g, (b, tt)))) d (n, (l, (g, (b, tt))))
+
+abbrev pub eventOf : ℕ → ℕ → Event
+eventOf kind p = record { kind = kind; process = p }
+
+-- a call lent s and given the event gave d: `event(s, kind, p)`, or `request(s, p)`, `step(s, p)` or `release(s, p)`
+pub data Called (s : State) : Event → Done → Type 0 where
+  by-event : (kind p : ℕ) (d : Done) → event-reads.Learnt tt (s, (kind, (p, tt))) d (s, (kind, (p, tt))) → Called s (eventOf kind p) d
+  by-request : (p : ℕ) (d : Done) → request-reads.Learnt tt (s, (p, tt)) d (s, (p, tt)) → Called s (eventOf 0 p) d
+  by-step : (p : ℕ) (d : Done) → step-reads.Learnt tt (s, (p, tt)) d (s, (p, tt)) → Called s (eventOf 1 p) d
+  by-release : (p : ℕ) (d : Done) → release-reads.Learnt tt (s, (p, tt)) d (s, (p, tt)) → Called s (eventOf 2 p) d
+
+-- from s on, calls of the events gave the results, one each
+pub data Calls : State → List Event → List Done → Type 0 where
+  none : (s : State) → Calls s [] []
+  call : (s : State) (e : Event) (d : Done) (es : List Event) (ds : List Done) → Called s e d → Calls (d .state) es ds → Calls s (e ∷ es) (d ∷ ds)
+
+-- the state after i calls, from s on
+abbrev pub stateAt : State → List Done → ℕ → State
+stateAt s ds zero = s
+stateAt s [] (suc i) = s
+stateAt s (d ∷ ds) (suc i) = stateAt (d .state) ds i
+
+-- the calls' journal: each answer, with its process after it
+abbrev pub entriesOf : List Event → List Done → List ℕ
+entriesOf (e ∷ es) (d ∷ ds) = entryBytes (d .answer) (processAt (d .state) (e .process)) ++ entriesOf es ds
+entriesOf [] ds = []
+entriesOf (e ∷ es) [] = []
+
+-- `run(s, bytes, journal)` gave d
+abbrev pub Ran : Lfts 2 → State → RefT (List ℕ) → RefT (List ℕ) → Done → RefT (List ℕ) → RefT (List ℕ) → Type 0
+Ran κs s bytes journal d bytes′ journal′ = run-reads.Learnt κs (s, (bytes, (journal, tt))) d (s, (bytes′, (journal′, tt)))
