@@ -1,5 +1,5 @@
 -- One operation on one shared place: the process record and the word after it, or both as they were with answer 15 where a number
--- would leave its range. Built from machine's definitions; proofs/ByPlace.antt of crate renaming shows that they are its events.
+-- would leave its range. Built from machine's definitions; proofs/ByPlace.antt shows that they are its events.
 use mathlib.Core.Bool.{cond}
 use mathlib.Core.List.{List}
 use Prim.Native.Nat.{ℕ, _+_, _-_}
