@@ -7,7 +7,7 @@ ghost use lib.ListN.{length};
 ghost use lib.Seq.{sets};
 ghost use Rattle.renaming.specs.Entries.{isNameless, entryBytes};
 
-pub fn put4(journal: &mut [u8], at: usize, a: u8, b: u8, c: u8, d: u8)
+pub(crate) fn put4(journal: &mut [u8], at: usize, a: u8, b: u8, c: u8, d: u8)
     requires { ⌜ at + 4 ≤ length (now journal) ⌝ }
     ensures { λ r. ⌜ now (journal .exit) ≡ sets (now (journal .entry)) at (a ∷ b ∷ c ∷ d ∷ []) ⌝ }
 {
@@ -30,7 +30,7 @@ fn is_nameless(a: u8) -> bool
 }
 
 // An entry: the answer, then the process after the event, or 255s.
-pub fn log(journal: &mut [u8], at: usize, a: u8, h: Process)
+pub(crate) fn log(journal: &mut [u8], at: usize, a: u8, h: Process)
     requires { ⌜ at + 4 ≤ length (now journal) ⌝ }
     ensures { λ r. ⌜ now (journal .exit) ≡ sets (now (journal .entry)) at (entryBytes a h) ⌝ }
 {

@@ -17,7 +17,7 @@ ghost use Rattle.machine.specs.Range.{inRange};
 ghost use Rattle.renaming.specs.Entries.{written};
 
 // The events of a list, on a state in range.
-pub fn run_checked(state: State, events: &[u8], journal: &mut [u8]) -> State
+pub(crate) fn run_checked(state: State, events: &[u8], journal: &mut [u8]) -> State
     requires { ⌜ (inRange state ≡ true) × ((length (now events) % 2 ≡ 0) × (2 * length (now events) ≤ length (now journal))) ⌝ }
     ensures { λ r. ⌜ (r ≡ after state (eventsOf (now (events .entry)))) × (now (journal .exit) ≡ written state (now (events .entry)) (now (journal .entry))) ⌝ }
 {
