@@ -1,11 +1,10 @@
--- What an answer of 0 to a setup says of its numbers, for the calls that need it: machine's limits, and since b is at least 1, L·g
--- is at most k. Assumes nothing.
+-- What an answer of 0 to a setup says of its numbers, for the calls that need it: machine's limits. Assumes
+-- nothing.
 use mathlib.Core.Path.{_≡_, sym, _∙_}
 use Prim.Native.Nat.{ℕ, _*_, _≤_}
-use native.Mathlib.Nat.{le-mul-of-pos-right}
-use native.Mathlib.Omega.{arith}
 use Rattle.machine.specs.Setup.{names, setupAnswer}
 use Rattle.machine.proofs.Facts.Leaves.{leaves-high}
+use Rattle.machine.proofs.Places.{segments-64}
 use Rattle.machine.proofs.Ranges.{limits-of}
 
 pub record Accepted (n l g b : ℕ) : Type 0 where
@@ -22,6 +21,6 @@ accepted {n} {l} {g} {b} {a} e z =
       n64 = k .n64;
       l16 = leaves-high l (k .leaves);
       b8 = k .b8;
-      words = omega (arith, k .k64, le-mul-of-pos-right {m = b} (l * g) (k .b1));
+      words = segments-64 l g b (k .b1) (k .k64);
       k64 = k .k64;
     }

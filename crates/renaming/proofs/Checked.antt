@@ -5,8 +5,6 @@ use mathlib.Core.Bool.{true}
 use mathlib.Core.List.{List, map}
 use Prim.Native.Nat.{ℕ, _*_, _≤_, _<_}
 use native.Mathlib.Decide.{ℕ-discrete}
-use native.Mathlib.Nat.{mul-le-mul-left}
-use native.Mathlib.Omega.{arith}
 use lib.ListN.{length, length-map}
 use Rattle.machine.specs.Event.{event}
 use Rattle.machine.specs.Range.{inRange}
@@ -15,6 +13,7 @@ use Rattle.machine.specs.declared.State.{State}
 use Rattle.machine.proofs.Facts.Leaves.{leaves-high}
 use Rattle.machine.proofs.Laws.Answers.{accepted-in-range, refused-unchanged}
 use Rattle.machine.proofs.Laws.OnePlace.{sized-kept}
+use Rattle.machine.proofs.Places.{segments-64}
 use Rattle.machine.proofs.Ranges.{Ranges, ranges-of, in-range}
 use Rattle.machine.proofs.Sized.{Sized}
 use Rattle.operations.specs.Places.{Setting}
@@ -36,7 +35,7 @@ module _ {s : State} (c : Checked s) where
 
   -- so many segment words
   pub words-64 : s .leaves * s .segments ≤ 64
-  words-64 = omega (arith, mul-le-mul-left (s .leaves * s .segments) (c .ranges .limits .b1), names-64)
+  words-64 = segments-64 (s .leaves) (s .segments) (s .bits) (c .ranges .limits .b1) names-64
 
   pub setting : (p : ℕ) → p < s .processes → Setting (s .leaves) (s .segments) (s .bits) (processAt s p)
   setting p kp = record { l16 = leaves-16; b1 = c .ranges .limits .b1; k64 = names-64; ranges = c .ranges .process p kp }
