@@ -1,3 +1,4 @@
+-- `is_leaves` meets its contract: five numbers, and every other, one by one. Assumes nothing.
 use Rattle.machine.specs.Setup.{isLeaves}
 use Rattle.operations.proofs.Rules.{tests}
 use Rattle.ranges.proofs.limits.is_leaves.Statement.{statement}

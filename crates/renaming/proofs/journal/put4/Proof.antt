@@ -1,3 +1,4 @@
+-- `put4` meets its contract: four stores in a row are a run of stores. Assumes nothing.
 use native.Mathlib.Omega.{arith}
 use native.Mathlib.Numerals.{add-one}
 use lib.ListN.{length-set}

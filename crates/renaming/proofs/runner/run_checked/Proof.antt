@@ -30,17 +30,20 @@ abbrev μ-loop : tie.MeasureT-loop
 
 -- where the event's place is known: the state, the event, and what they tell
 module _ (c : tie.After-place-of Inv-loop μ-loop) where
+  abbrev round : tie.At-loop Inv-loop μ-loop
+  round = c .before .before .before .before .before .before .before
+
   abbrev here : State
-  here = c .before .before .before .before .before .before .before .loop .t
+  here = round .loop .t
 
   abbrev kind : ℕ
-  kind = getD (c .before .before .before .before .before .before .before .before .before .before .args .events .now) (c .before .before .before .before .before .before .before .loop .at) 0
+  kind = getD (round .before .before .before .args .events .now) (round .loop .at) 0
 
   abbrev process : ℕ
-  process = getD (c .before .before .before .before .before .before .before .before .before .before .args .events .now) (c .before .before .before .before .before .before .before .loop .at + 1) 0
+  process = getD (round .before .before .before .args .events .now) (round .loop .at + 1) 0
 
   abbrev checked : Checked here
-  checked = c .before .before .before .before .before .before .before .loop .inv .1
+  checked = round .loop .inv .1
 
   known : kind ≤ 2
   known = c .before .before .before .if1 .left
@@ -123,8 +126,9 @@ loop-less c = omega arith
 
 loop-again : tie.Need-loop-again Inv-loop μ-loop
 loop-again c =
-    let i = c .before .before .before .before .before .before .before .before .loop .inv in
-    let s = c .before .before .before .before .before .before .before .before .loop .t in
+    let at = c .before .before .before .before .before .before .before .before .loop in
+    let i = at .inv in
+    let s = at .t in
     let k = c .before .before .before .before .if1 .taken in
     (next (i .0) (omega arith) (omega arith) (ap (λ (d : Done). d .state) (kind-done s _ _ (i .1) k)) (kind-wrote s _ _ (i .1) k) (c .before .before .put4 .ensures), i .1)
 
@@ -136,8 +140,9 @@ loop-less-2 c = omega arith
 
 loop-again-2 : tie.Need-loop-again-2 Inv-loop μ-loop
 loop-again-2 c =
-    let i = c .before .before .before .before .before .before .before .before .before .loop .inv in
-    let s = c .before .before .before .before .before .before .before .before .before .loop .t in
+    let at = c .before .before .before .before .before .before .before .before .before .loop in
+    let i = at .inv in
+    let s = at .t in
     let k = c .before .before .before .before .before .if1 .left in
     let m = c .before .before .before .before .if2 .taken in
     (next (i .0) (omega arith) (omega arith) (ap (λ (d : Done). d .state) (stranger-done s _ _ (i .1) k m)) (stranger-wrote s _ _ (i .1) k m) (c .before .before .put42 .ensures), i .1)
