@@ -5,12 +5,13 @@ use Prim.Native.Nat.{ℕ, _+_, _*_, _-_, _/_, _≤_, _<_}
 use native.Mathlib.Nat.{div-lt-iff-lt-mul, mul-le-mul-left}
 use native.Mathlib.Omega.{arith}
 use lib.Arith.{digits-lt}
+use Rattle.machine.specs.Setup.{names}
 use Rattle.machine.specs.State.{none}
 use Rattle.machine.specs.declared.Process.{Process}
 use Rattle.machine.proofs.Ranges.{ProcessRanges}
 
 -- a segment has a name, so there are no more segments than names
-pub segments-64 : (l g b : ℕ) → 1 ≤ b → l * g * b ≤ 64 → l * g ≤ 64
+pub segments-64 : (l g b : ℕ) → 1 ≤ b → names l g b ≤ 64 → l * g ≤ 64
 segments-64 l g b b1 k64 = omega (arith, mul-le-mul-left (l * g) b1)
 
 module _ {l g b : ℕ} {h : Process} (k : ProcessRanges l g b h) where

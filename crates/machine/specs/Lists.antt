@@ -1,5 +1,5 @@
 -- Document 01, section Lists, journal and roll: lists of events, and the journal.
-use mathlib.Core.Bool.{cond, _||_}
+use mathlib.Core.Bool.{Bool, cond, _||_}
 use mathlib.Core.List.{List, [], _∷_, _++_}
 use Prim.Native.Nat.{ℕ, _*_, _/_, _%_}
 use lib.Dec.{leb, eqb}
@@ -8,6 +8,7 @@ use Rattle.machine.specs.Check.{Check, check, checked}
 use Rattle.machine.specs.Event.{event}
 use Rattle.machine.specs.Range.{inRange}
 use Rattle.machine.specs.State.{done, processAt}
+use Rattle.machine.specs.declared.Process.{Process}
 use Rattle.machine.specs.declared.State.{State}
 use Rattle.machine.specs.declared.Done.{Done}
 
@@ -36,11 +37,14 @@ answers s (e ∷ es) = eventDone s e .answer ∷ answers (eventDone s e .state) 
 
 -- The journal takes four bytes for each event: answer, then stage, name and steps after it. For answers 12, 6 and 15 those
 -- three bytes are 255.
+abbrev pub showsNone : ℕ → Bool
+showsNone a = eqb a 12 || eqb a 6 || eqb a 15
+
+abbrev pub entryBytes : ℕ → Process → List ℕ
+entryBytes a h = cond (showsNone a) (a ∷ 255 ∷ 255 ∷ 255 ∷ []) (a ∷ h .stage ∷ h .name ∷ h .steps ∷ [])
+
 unfoldable pub entryOf : State → Event → List ℕ
-entryOf s e =
-    let a : ℕ = eventDone s e .answer in
-    let h = processAt (eventDone s e .state) (e .process) in
-    cond (eqb a 12 || eqb a 6 || eqb a 15) (a ∷ 255 ∷ 255 ∷ 255 ∷ []) (a ∷ h .stage ∷ h .name ∷ h .steps ∷ [])
+entryOf s e = entryBytes (eventDone s e .answer) (processAt (eventDone s e .state) (e .process))
 
 unfoldable pub journal : State → List Event → List ℕ
 journal s [] = []
@@ -49,6 +53,10 @@ journal s (e ∷ es) = entryOf s e ++ journal (eventDone s e .state) es
 -- four times the events of a list of bytes
 abbrev pub journalLength : List ℕ → ℕ
 journalLength bytes = 4 * (length bytes / 2)
+
+-- the lent journal after an accepted list: bytes beyond four times the events are untouched
+abbrev pub written : State → List ℕ → List ℕ → List ℕ
+written s bytes lent = journal s (eventsOf bytes) ++ drop (journalLength bytes) lent
 
 -- A list: 14, 13, 15 for the state, then its events.
 abbrev pub runChecks : State → List ℕ → List ℕ → List Check
@@ -59,7 +67,6 @@ runChecks s bytes lent =
 unfoldable pub run : State → List ℕ → List ℕ → Done
 run s bytes lent = checked (runChecks s bytes lent) (λ a. done a s) (done 0 (after s (eventsOf bytes)))
 
--- the lent journal afterwards: bytes beyond four times the events are untouched, and a refused list writes nothing
+-- the lent journal afterwards: a refused list writes nothing
 unfoldable pub runJournal : State → List ℕ → List ℕ → List ℕ
-runJournal s bytes lent =
-    checked (runChecks s bytes lent) (λ a. lent) (journal s (eventsOf bytes) ++ drop (journalLength bytes) lent)
+runJournal s bytes lent = checked (runChecks s bytes lent) (λ a. lent) (written s bytes lent)

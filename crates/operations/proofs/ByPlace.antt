@@ -22,7 +22,7 @@ use Rattle.machine.proofs.Laws.Room.Getname.{getname-room}
 use Rattle.machine.proofs.Laws.Room.Putname.{putname-room}
 use Rattle.machine.proofs.Ranges.{Ranges, in-range}
 use Rattle.machine.proofs.Sized.{Sized}
-use Rattle.operations.specs.Moves.{entered, enteredQueue, awaited, descended, probed, climbed, left, leftQueue}
+use Rattle.operations.specs.Moves.{entered, enteredQueue, awaited, descended, probed, climbed, departed, departedQueue}
 use Rattle.operations.specs.Places.{getnamePlace, putnamePlace, stepPlace, placeOf, doneAt}
 use Rattle.operations.specs.declared.place.Place.the-variants.{Own, Gate, Queue, Parent, Root}
 
@@ -80,7 +80,7 @@ module _ (s : State) (z : Sized s) (k : Ranges s) (p : ℕ) (kp : p < s .process
 
   -- stage 5, by the tests in their order: a name; above node 1; from the left; and the room
   leave-at : cond (canRise (namesOf s) (s .gate)) (done 0 (leave s p)) (done 15 s) ≡ doneAt Root s p
-  unfolding doneAt leave headGone left leftQueue
+  unfolding doneAt leave headGone departed departedQueue
   leave-at = go (canRise (namesOf s) (s .gate)) refl
     where
       go : (t : Bool) → canRise (namesOf s) (s .gate) ≡ t → cond (canRise (namesOf s) (s .gate)) (done 0 (leave s p)) (done 15 s) ≡ doneAt Root s p

@@ -41,19 +41,19 @@ all-shifted = refl
 pub shifted-is : (i : ℕ) → i < 8 → (1 * 2 ^ i) % 256 ≡ 2 ^ i
 shifted-is i k = eqb-true ((1 * 2 ^ i) % 256) (2 ^ i) (all-at 8 shifted all-shifted i k)
 
-abbrev within : ℕ → ℕ → Bool
-within b w = cond (ltb (firstZero b w) b) (ltb (w + 2 ^ firstZero b w) 256) true
+abbrev isByte : ℕ → ℕ → Bool
+isByte b w = cond (ltb (firstZero b w) b) (ltb (w + 2 ^ firstZero b w) 256) true
 
-abbrev withins : ℕ → Bool
-withins b = allBelow 256 (within b)
+abbrev bytes : ℕ → Bool
+bytes b = allBelow 256 (isByte b)
 
-all-within : allBelow 9 withins ≡ true
+all-bytes : allBelow 9 bytes ≡ true
 unfolding allBelow firstZero
-all-within = refl
+all-bytes = refl
 
 pub set-below : (b w : ℕ) → b < 9 → w < 256 → firstZero b w < b → w + 2 ^ firstZero b w < 256
 set-below b w k l h =
-    let t : within b w ≡ true = all-at 256 (within b) (all-at 9 withins all-within b k) w l in
+    let t : isByte b w ≡ true = all-at 256 (isByte b) (all-at 9 bytes all-bytes b k) w l in
     ltb-true (w + 2 ^ firstZero b w) 256 (rw (lt-ltb (firstZero b w) b h) at t)
 
 abbrev held : ℕ → ℕ → Bool

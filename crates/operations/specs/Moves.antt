@@ -53,8 +53,8 @@ unfoldable pub climbed : ℕ → ℕ → Process → ℕ → Moved
 climbed k u h c = cond (ltb c (freshCounter k u)) (moved 0 (withNode u h) (c + 1)) (moved 15 h c)
 
 -- stage 5 at node 1; and the queue
-unfoldable pub left : ℕ → Process → ℤ → ℕ → Gated
-left k h a n = cond (canRise k a) (gated 0 (withStage remainder (withSegment 0 h)) (sucℤ a) (n - 1)) (gated 15 h a n)
+unfoldable pub departed : ℕ → Process → ℤ → ℕ → Gated
+departed k h a n = cond (canRise k a) (gated 0 (withStage remainder (withSegment 0 h)) (sucℤ a) (n - 1)) (gated 15 h a n)
 
-unfoldable pub leftQueue : ℕ → ℤ → ℕ → List ℕ → List ℕ
-leftQueue k a n q = cond (canRise k a) (cond (eqb n 0) q (movedUp q)) q
+unfoldable pub departedQueue : ℕ → ℤ → ℕ → List ℕ → List ℕ
+departedQueue k a n q = cond (canRise k a) (cond (eqb n 0) q (movedUp q)) q

@@ -11,7 +11,7 @@ use Rattle.machine.specs.declared.Done.{Done}
 use Rattle.machine.specs.declared.Process.{Process}
 use Rattle.machine.specs.declared.State.{State}
 use Rattle.machine.proofs.Ranges.{ProcessRanges}
-use Rattle.operations.specs.Moves.{entered, enteredQueue, awaited, descended, probed, climbed, left, leftQueue}
+use Rattle.operations.specs.Moves.{entered, enteredQueue, awaited, descended, probed, climbed, departed, departedQueue}
 use Rattle.operations.specs.declared.place.Place.{Place}
 use Rattle.operations.specs.declared.place.Place.the-variants.{Own, Gate, Queue, Counter, Segment, Bit, Parent, Root}
 
@@ -64,5 +64,5 @@ doneAt (Bit r i) s p = done 0 (withProcess p (withName none (processAt s p)) (wi
 doneAt (Parent u) s p =
     let m = climbed (namesOf s) u (processAt s p) (counterAt s u) in done (m .answer) (withProcess p (m .process) (withCounter u (m .word) s))
 doneAt Root s p =
-    let m = left (namesOf s) (processAt s p) (s .gate) (s .queued) in
-    done (m .answer) (withProcess p (m .process) (withQueue (m .queued) (leftQueue (namesOf s) (s .gate) (s .queued) (s .queue)) (withGate (m .gate) s)))
+    let m = departed (namesOf s) (processAt s p) (s .gate) (s .queued) in
+    done (m .answer) (withProcess p (m .process) (withQueue (m .queued) (departedQueue (namesOf s) (s .gate) (s .queued) (s .queue)) (withGate (m .gate) s)))

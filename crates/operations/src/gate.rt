@@ -7,7 +7,7 @@ ghost use lib.IntN.{sucℤ, predℤ};
 ghost use lib.ListN.{length};
 ghost use Rattle.machine.specs.Gate.{above0, among, movedUp};
 ghost use Rattle.machine.proofs.Laws.Room.{canFall, canRise};
-ghost use Rattle.operations.specs.Moves.{entered, enteredQueue, awaited, left, leftQueue};
+ghost use Rattle.operations.specs.Moves.{entered, enteredQueue, awaited, departed, departedQueue};
 
 // A process record, the gate word and the number queued after an operation, with its answer.
 pub struct Gated {
@@ -132,7 +132,7 @@ pub fn wait(h: Process, queue: &[u8; 64], n: u8, p: u8) -> Process
 // Stage 5 at node 1: the queue's head, if there is one, leaves, and the gate word rises.
 pub fn leave(h: Process, k: u8, a: i8, n: u8, queue: &mut [u8; 64]) -> Gated
     requires { ⌜ (k ≤ 64) × (length (now queue) ≡ 64) ⌝ }
-    ensures { λ r. ⌜ (r ≡ left k h a n) × (now (queue .exit) ≡ leftQueue k a n (now (queue .entry))) ⌝ }
+    ensures { λ r. ⌜ (r ≡ departed k h a n) × (now (queue .exit) ≡ departedQueue k a n (now (queue .entry))) ⌝ }
 {
     let mut x = h;
     if can_rise(k, a) {

@@ -8,7 +8,7 @@ use lib.IntN.{ℤ}
 use lib.ListN.{length, length-set}
 use lib.Seq.{getD-set-same}
 use Rattle.machine.specs.Event.{event}
-use Rattle.machine.specs.Lists.{entryOf}
+use Rattle.machine.specs.Lists.{entryOf, entryBytes}
 use Rattle.machine.specs.Operations.{clrBit}
 use Rattle.machine.specs.State.{done, none, noProcess, processAt, counterAt, wordAt, namesOf, withName, withGate, withQueue, withCounter, withWord, withProcess}
 use Rattle.machine.specs.declared.Done.{Done}
@@ -18,13 +18,12 @@ use Rattle.machine.proofs.Laws.Answers.{kind-refused, stranger-refused}
 use Rattle.machine.proofs.Laws.OnePlace.{sized-kept}
 use Rattle.machine.proofs.Ranges.{in-range}
 use Rattle.operations.proofs.ByPlace.{event-at}
-use Rattle.operations.specs.Moves.{entered, enteredQueue, awaited, descended, probed, climbed, left, leftQueue}
+use Rattle.operations.specs.Moves.{entered, enteredQueue, awaited, descended, probed, climbed, departed, departedQueue}
 use Rattle.operations.specs.Places.{placeOf, doneAt}
 use Rattle.operations.specs.declared.gate.Gated.{Gated}
 use Rattle.operations.specs.declared.getname.Moved.{Moved}
 use Rattle.operations.specs.declared.place.Place.{Place}
 use Rattle.operations.specs.declared.place.Place.the-variants.{Own, Gate, Queue, Counter, Segment, Bit, Parent, Root}
-use Rattle.renaming.specs.Entries.{isNameless, entryBytes}
 use Rattle.renaming.proofs.Checked.{Checked}
 
 -- the event's answer is a, and the state t with the process record x stored is its state
@@ -93,16 +92,16 @@ module _ (s : State) (kind p : ℕ) (c : Checked s) (k2 : kind ≤ 2) (kp : p < 
   parent m u e em = simp em (at-place e)
 
   pub root : (m : Gated) (q : List ℕ) (z z′ : ℤ) → place ≡ Root → z ≡ s .gate → z′ ≡ m .gate
-      → m ≡ left (namesOf s) h z (s .queued) → q ≡ leftQueue (namesOf s) z (s .queued) (s .queue)
+      → m ≡ departed (namesOf s) h z (s .queued) → q ≡ departedQueue (namesOf s) z (s .queued) (s .queue)
       → Stored s kind p (withQueue (m .queued) q (withGate z′ s)) (m .process) (m .answer)
   unfolding doneAt
   root m q z z′ e ez ez′ em eq =
       at-place e
-      ∙ gate-as m _ q _ z′ (em ∙ ap (λ (y : ℤ). left (namesOf s) h y (s .queued)) ez) (eq ∙ ap (λ (y : ℤ). leftQueue (namesOf s) y (s .queued) (s .queue)) ez) ez′
+      ∙ gate-as m _ q _ z′ (em ∙ ap (λ (y : ℤ). departed (namesOf s) h y (s .queued)) ez) (eq ∙ ap (λ (y : ℤ). departedQueue (namesOf s) y (s .queued) (s .queue)) ez) ez′
 
   -- the journal entry of the event
   pub wrote : (t : State) (x : Process) (a : ℕ) → Stored s kind p t x a → entryBytes a x ≡ entryOf s (record { kind = kind; process = p })
-  unfolding entryBytes entryOf isNameless
+  unfolding entryOf
   wrote t x a e =
       let n : length (event s kind p .state .process) ≡ 64 = sized-kept s kind p (c .sized) .process in
       let n′ : length (t .process) ≡ 64 = sym (length-set (t .process) p x) ∙ sym (ap (λ (d : Done). length (d .state .process)) e) ∙ n in

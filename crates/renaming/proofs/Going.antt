@@ -7,10 +7,9 @@ use native.Mathlib.Omega.{arith}
 use native.Mathlib.Numerals.{add-one}
 use lib.ListN.{length, take, drop, getD, drop-of-length-le, take-append-drop}
 use lib.Seq.{sets, drop-cons, length-sets}
-use Rattle.machine.specs.Lists.{Event, eventsOf, eventDone, after, entryOf, journal, journalLength}
+use Rattle.machine.specs.Lists.{Event, eventsOf, eventDone, after, entryOf, journal, journalLength, written}
 use Rattle.machine.specs.declared.State.{State}
 use Rattle.machine.proofs.Laws.Parts.{entry-length}
-use Rattle.renaming.specs.Entries.{written}
 use Rattle.renaming.proofs.Stores.{add-two, entry-step}
 
 -- the run from byte i on, with what is written before it, is the whole run

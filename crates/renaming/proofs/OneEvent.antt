@@ -6,11 +6,10 @@ use Prim.Native.Nat.{ℕ}
 use lib.Dec.{eqb}
 use lib.ListN.{getD, drop}
 use Rattle.machine.specs.Event.{event}
-use Rattle.machine.specs.Lists.{Event, eventsOf, eventDone, after, entryOf, journal, journalLength}
+use Rattle.machine.specs.Lists.{Event, eventsOf, eventDone, after, entryOf, journal, journalLength, written}
 use Rattle.machine.specs.State.{done}
 use Rattle.machine.specs.declared.State.{State}
 use Rattle.machine.proofs.Facts.Tests.{by-cond}
-use Rattle.renaming.specs.Entries.{written}
 
 first-byte : (s : State) (e : Event) (rest : List ℕ) → getD (entryOf s e ++ rest) 0 0 ≡ eventDone s e .answer
 unfolding entryOf

@@ -5,7 +5,7 @@ ghost use mathlib.Core.List.{[], _∷_};
 ghost use Prim.Native.Nat.{_+_, _≤_};
 ghost use lib.ListN.{length};
 ghost use lib.Seq.{sets};
-ghost use Rattle.renaming.specs.Entries.{isNameless, entryBytes};
+ghost use Rattle.machine.specs.Lists.{showsNone, entryBytes};
 
 pub(crate) fn put4(journal: &mut [u8], at: usize, a: u8, b: u8, c: u8, d: u8)
     requires { ⌜ at + 4 ≤ length (now journal) ⌝ }
@@ -17,9 +17,9 @@ pub(crate) fn put4(journal: &mut [u8], at: usize, a: u8, b: u8, c: u8, d: u8)
     journal[at + 3] = d;
 }
 
-// An answer after which no process is shown.
-fn is_nameless(a: u8) -> bool
-    ensures { λ r. ⌜ r ≡ isNameless a ⌝ }
+// An answer whose entry shows no process.
+fn shows_none(a: u8) -> bool
+    ensures { λ r. ⌜ r ≡ showsNone a ⌝ }
 {
     match a {
         12 => true,
@@ -34,7 +34,7 @@ pub(crate) fn log(journal: &mut [u8], at: usize, a: u8, h: Process)
     requires { ⌜ at + 4 ≤ length (now journal) ⌝ }
     ensures { λ r. ⌜ now (journal .exit) ≡ sets (now (journal .entry)) at (entryBytes a h) ⌝ }
 {
-    if is_nameless(a) {
+    if shows_none(a) {
         put4(&mut *journal, at, a, 255, 255, 255);
         return;
     }

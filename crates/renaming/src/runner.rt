@@ -12,9 +12,8 @@ ghost use mathlib.Core.Path.{_≡_};
 ghost use mathlib.Core.Bool.{true};
 ghost use Prim.Native.Nat.{_*_, _%_, _≤_};
 ghost use lib.ListN.{length};
-ghost use Rattle.machine.specs.Lists.{eventsOf, after};
+ghost use Rattle.machine.specs.Lists.{eventsOf, after, written};
 ghost use Rattle.machine.specs.Range.{inRange};
-ghost use Rattle.renaming.specs.Entries.{written};
 
 // The events of a list, on a state in range.
 pub(crate) fn run_checked(state: State, events: &[u8], journal: &mut [u8]) -> State

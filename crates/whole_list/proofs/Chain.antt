@@ -4,11 +4,10 @@ use mathlib.Core.Path.{_≡_, refl, ap, _∙_}
 use mathlib.Core.List.{List, _∷_, _++_, map}
 use Prim.Native.Nat.{ℕ, zero, suc}
 use lib.ListN.{length, take}
-use Rattle.machine.specs.Lists.{Event, eventDone, after, answers, entryOf, journal}
+use Rattle.machine.specs.Lists.{Event, eventDone, after, answers, entryOf, journal, entryBytes}
 use Rattle.machine.specs.State.{processAt}
 use Rattle.machine.specs.declared.Done.{Done}
 use Rattle.machine.specs.declared.State.{State}
-use Rattle.renaming.specs.Entries.{isNameless, entryBytes}
 use Rattle.whole_list.specs.Whole.{ownState}
 use Rattle.whole_list.specs.Calls.{Called, by-event, by-request, by-step, by-release, Calls, none, call, stateAt, entriesOf}
 
@@ -47,7 +46,7 @@ last-state-is (none s) = refl
 last-state-is (call s e d es ds c rest) = last-state-is rest ∙ ap (λ (x : Done). after (x .state) es) (called-is c)
 
 entry-is : (s : State) (e : Event) (d : Done) → d ≡ eventDone s e → entryBytes (d .answer) (processAt (d .state) (e .process)) ≡ entryOf s e
-unfolding entryBytes entryOf isNameless
+unfolding entryOf
 entry-is s e d k = rw k
 
 pub entries-are : {s : State} {es : List Event} {ds : List Done} → Calls s es ds → entriesOf es ds ≡ journal s es

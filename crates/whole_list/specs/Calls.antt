@@ -4,11 +4,10 @@ use mathlib.Core.List.{List, [], _∷_, _++_}
 use Prim.Native.Nat.{ℕ, zero, suc}
 use contract.Lifetimes.{Lfts}
 use denote.Ref.{RefT}
-use Rattle.machine.specs.Lists.{Event}
+use Rattle.machine.specs.Lists.{Event, entryBytes}
 use Rattle.machine.specs.State.{processAt}
 use Rattle.machine.specs.declared.Done.{Done}
 use Rattle.machine.specs.declared.State.{State}
-use Rattle.renaming.specs.Entries.{entryBytes}
 use Rattle.renaming.proofs.setup.setup.Reads as setup-reads
 use Rattle.renaming.proofs.event.event.Reads as event-reads
 use Rattle.renaming.proofs.event.request.Reads as request-reads

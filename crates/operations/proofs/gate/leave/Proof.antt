@@ -4,7 +4,7 @@ use Prim.Native.Nat.{_-_}
 use native.Mathlib.Omega.{arith}
 use borrow.Author.Tests.{eq-eqb, ne-eqb}
 use mir.Facts.{toZ-ofZ}
-use Rattle.operations.specs.Moves.{left, leftQueue}
+use Rattle.operations.specs.Moves.{departed, departedQueue}
 use Rattle.operations.proofs.Signed.{suc-fits}
 use borrow.Author.Needs.{needs}
 use Rattle.operations.proofs.gate.leave.Statement.{statement}
@@ -23,7 +23,7 @@ sub-t12 : tie.Need-sub-t12
 sub-t12 c = search needs
 
 returns : tie.Need-returns
-unfolding left leftQueue
+unfolding departed departedQueue
 returns c =
     let s = c .before .before .before .before .before .before in
     let e = toZ-ofZ (s .fits .a) in
@@ -34,7 +34,7 @@ returns c =
     )
 
 returns-2 : tie.Need-returns-2
-unfolding left leftQueue
+unfolding departed departedQueue
 returns-2 c =
     let s = c .before .before .before .before in
     let e = toZ-ofZ (s .fits .a) in
@@ -44,7 +44,7 @@ returns-2 c =
     (simp (none, c .before .raised .ensures, e, toZ-ofZ (suc-fits (s .args .k) (s .args .a) (s .fits .a) p (s .pre .0)), p), simp (p, z))
 
 returns-3 : tie.Need-returns-3
-unfolding left leftQueue
+unfolding departed departedQueue
 returns-3 c =
     let e = toZ-ofZ (c .before .before .fits .a) in
     let p = rw e at (sym (c .before .can-rise .ensures) ∙ c .if1 .left) in

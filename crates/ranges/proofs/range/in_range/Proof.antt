@@ -7,7 +7,7 @@ use borrow.Author.Needs.{needs}
 use borrow.Author.Tests.{not-true, not-false, eq-eqb, ne-eqb, le-leb, lt-leb}
 use Rattle.machine.specs.Below.{allBelow}
 use Rattle.machine.specs.Range.{setupInRange, processInRange, rangeTests, inRange}
-use Rattle.ranges.proofs.Accepted.{accepted}
+use Rattle.ranges.proofs.Accepted.{accepted, leaves-16, words-64}
 use Rattle.ranges.proofs.Verdict.{one-fails, passes, decides}
 use Rattle.ranges.proofs.range.in_range.Statement.{statement}
 use Rattle.ranges.proofs.range.in_range.Tie as tie
@@ -24,7 +24,7 @@ returns c =
 names-of-requires : tie.Need-names-of-requires
 names-of-requires c κs =
     let k = accepted (c .before .setup-answer .ensures) (c .if1 .left) in
-    (k .words, k .k64)
+    (words-64 k, k .k64)
 
 gate-in-range-requires : tie.Need-gate-in-range-requires
 gate-in-range-requires c κs =
@@ -57,7 +57,7 @@ returns-4 c =
 counters-in-range-requires : tie.Need-counters-in-range-requires
 counters-in-range-requires c κs =
     let passed = c .before .before .before .before .before .before .before .before .before .before .before in
-    accepted (passed .before .setup-answer .ensures) (passed .if1 .left) .l16
+    leaves-16 (accepted (passed .before .setup-answer .ensures) (passed .if1 .left))
 
 returns-5 : tie.Need-returns-5
 unfolding inRange
@@ -69,13 +69,13 @@ returns-5 c =
 mul-words-in-range : tie.Need-mul-words-in-range
 mul-words-in-range c =
     let passed = c .before .before .before .before .before .before .before .before .before .before .before .before .before .before .before in
-    search (needs, accepted (passed .before .setup-answer .ensures) (passed .if1 .left) .words)
+    search (needs, words-64 (accepted (passed .before .setup-answer .ensures) (passed .if1 .left)))
 
 words-in-range-requires : tie.Need-words-in-range-requires
 words-in-range-requires c κs =
     let passed = c .before .before .before .before .before .before .before .before .before .before .before .before .before .before .before in
     let k = accepted (passed .before .setup-answer .ensures) (passed .if1 .left) in
-    (k .words, k .b8)
+    (words-64 k, k .b8)
 
 returns-6 : tie.Need-returns-6
 unfolding inRange
@@ -87,7 +87,7 @@ processes-in-range-requires : tie.Need-processes-in-range-requires
 processes-in-range-requires c κs =
     let passed = c .before .before .before .before .before .before .before .before .before .before .before .before .before .before .before .before .before .before in
     let k = accepted (passed .before .setup-answer .ensures) (passed .if1 .left) in
-    (k .n64, k .l16)
+    (k .n64, leaves-16 k)
 
 returns-7 : tie.Need-returns-7
 unfolding inRange setupInRange

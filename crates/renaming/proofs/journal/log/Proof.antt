@@ -1,12 +1,11 @@
 -- `log` meets its contract: the entry's two forms, by its answer. Assumes nothing.
 use mathlib.Core.Path.{sym, _∙_}
-use Rattle.renaming.specs.Entries.{entryBytes}
 use borrow.Author.Needs.{needs}
 use Rattle.renaming.proofs.journal.log.Statement.{statement}
 use Rattle.renaming.proofs.journal.log.Tie as tie
 
-is-nameless-requires : tie.Need-is-nameless-requires
-is-nameless-requires c κs = search needs
+shows-none-requires : tie.Need-shows-none-requires
+shows-none-requires c κs = search needs
 
 put4-requires : tie.Need-put4-requires
 put4-requires c κs = search needs
@@ -15,8 +14,7 @@ same-length : tie.Need-same-length
 same-length c = search needs
 
 returns : tie.Need-returns
-unfolding entryBytes
-returns c = simp (sym (c .before .before .before .before .before .is-nameless .ensures) ∙ c .before .before .before .before .if1 .taken) (c .before .before .put4 .ensures)
+returns c = simp (sym (c .before .before .before .before .before .shows-none .ensures) ∙ c .before .before .before .before .if1 .taken) (c .before .before .put4 .ensures)
 
 put4-requires-2 : tie.Need-put4-requires-2
 put4-requires-2 c κs = search needs
@@ -25,14 +23,13 @@ same-length-2 : tie.Need-same-length-2
 same-length-2 c = search needs
 
 returns-2 : tie.Need-returns-2
-unfolding entryBytes
-returns-2 c = simp (sym (c .before .before .before .before .before .is-nameless .ensures) ∙ c .before .before .before .before .if1 .left) (c .before .before .put42 .ensures)
+returns-2 c = simp (sym (c .before .before .before .before .before .shows-none .ensures) ∙ c .before .before .before .before .if1 .left) (c .before .before .put42 .ensures)
 
 pub log-spec : {M : Type 1} → statement M
 log-spec =
     tie.close
     (tie.spec
-    is-nameless-requires
+    shows-none-requires
     put4-requires
     same-length
     returns

@@ -15,8 +15,9 @@ use Rattle.machine.proofs.Ranges.{ranges-of}
 use Rattle.operations.specs.Places.{Setting}
 use Rattle.operations.specs.declared.place.Place.{Place}
 use Rattle.operations.proofs.Segments.{names-64}
+use Rattle.ranges.proofs.Accepted.{words-64}
 use Rattle.renaming.proofs.Arms.{Stored, stored-as, own, gate, queue, counter, segment, bit, parent, root, wrote, kind-done, stranger-done, kind-wrote, stranger-wrote}
-use Rattle.renaming.proofs.Checked.{Checked, length-mapped, words-64, setting, event-checked}
+use Rattle.renaming.proofs.Checked.{Checked, length-mapped, limits, setting, event-checked}
 use Rattle.renaming.proofs.Going.{Going, next, finish}
 use Rattle.renaming.proofs.Used.{Used, used-at}
 use Rattle.renaming.proofs.runner.run_checked.Statement.{statement}
@@ -58,7 +59,7 @@ module _ (c : tie.After-place-of Inv-loop μ-loop) where
   used e = used-at (checked .ranges .limits .b8) told kind (sym (c .place-of .ensures) ∙ e)
 
   word-number : (r : ℕ) → r < here .leaves * here .segments → r < 64
-  word-number r e = omega (arith, e, words-64 checked)
+  word-number r e = omega (arith, e, words-64 (limits checked))
 
 -- where the arms meet: the machine's event, whichever the place
 met :
@@ -228,7 +229,7 @@ cast-j-4 : tie.Need-cast-j-4 Inv-loop μ-loop
 cast-j-4 c = search needs
 
 names-of-requires : tie.Need-names-of-requires Inv-loop μ-loop
-names-of-requires c κs = (words-64 (checked (c .before .before .before)), told (c .before .before .before) .k64)
+names-of-requires c κs = (words-64 (limits (checked (c .before .before .before))), told (c .before .before .before) .k64)
 
 element-copy-out-climb : tie.Need-element-copy-out-climb Inv-loop μ-loop
 element-copy-out-climb c = used (c .before .before .before .before) (c .before .before .u .given .1)
@@ -243,7 +244,7 @@ enum-told-3 : tie.Need-enum-told-3 Inv-loop μ-loop
 enum-told-3 c = search needs
 
 names-of-requires-2 : tie.Need-names-of-requires-2 Inv-loop μ-loop
-names-of-requires-2 c κs = (words-64 (checked (c .before .before)), told (c .before .before) .k64)
+names-of-requires-2 c κs = (words-64 (limits (checked (c .before .before))), told (c .before .before) .k64)
 
 leave-requires : tie.Need-leave-requires Inv-loop μ-loop
 leave-requires c κs = (omega (arith, c .before .before .names-of2 .ensures, told (c .before .before .before .before .before) .k64), checked (c .before .before .before .before .before) .sized .queue)

@@ -1,7 +1,7 @@
 -- `setup` meets its contract: its answer decides between the fresh state and the blank one. Assumes nothing.
 use mathlib.Core.Path.{sym, _∙_}
 use Rattle.machine.proofs.Laws.Setup.{setup-accepted, setup-refused}
-use Rattle.ranges.proofs.Accepted.{accepted}
+use Rattle.ranges.proofs.Accepted.{accepted, words-64}
 use borrow.Author.Needs.{needs}
 use Rattle.renaming.proofs.setup.setup.Statement.{statement}
 use Rattle.renaming.proofs.setup.setup.Tie as tie
@@ -21,7 +21,7 @@ returns c =
 names-of-requires : tie.Need-names-of-requires
 names-of-requires c κs =
     let k = accepted (c .before .setup-answer .ensures) (c .if1 .left) in
-    (k .words, k .k64)
+    (words-64 k, k .k64)
 
 fresh-state-requires : tie.Need-fresh-state-requires
 fresh-state-requires c κs = search needs

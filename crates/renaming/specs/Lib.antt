@@ -1,2 +1,0 @@
--- What the journal's code writes.
-pub mod Entries
