@@ -4,3 +4,4 @@ pub mod Below
 pub mod Lists
 pub mod Words
 pub mod Leaves
+pub mod Checks

@@ -3,22 +3,23 @@
 --     ranges-of, in-range      a state's numbers, against `inRange`
 -- Assumes nothing.
 use mathlib.Core.Path.{_≡_, refl}
-use mathlib.Core.Bool.{Bool, true, false, cond, _||_, or-true}
+use mathlib.Core.Bool.{Bool, true, false, _||_, or-true}
 use mathlib.Core.List.{List}
-use Prim.Native.Nat.{ℕ, _+_, _*_, _^_, _≤_, _<_}
+use Prim.Native.Nat.{ℕ, _*_, _^_, _≤_, _<_}
 use native.Mathlib.Decide.{ℕ-discrete}
 use native.Mathlib.Omega.{arith}
 use lib.Dec.{eqb, ltb, leb}
 use lib.ListN.{getD}
 use borrow.Author.Tests.{leb-true, ltb-true, ltb-false, eqb-true, eqb-false, le-leb, lt-ltb, le-ltb, eq-eqb, ne-eqb}
 use Rattle.machine.specs.Below.{allBelow}
-use Rattle.machine.specs.Setup.{names, within, isLeaves, setupAnswer}
+use Rattle.machine.specs.Setup.{names, isLeaves, setupChecks, setupAnswer}
 use Rattle.machine.specs.State.{none, processAt, counterAt, wordAt, namesOf, freshCounter}
 use Rattle.machine.specs.Range.{setupInRange, gateInRange, placeInRange, counterInRange, wordInRange, processTests, processInRange, rangeTests, inRange}
 use Rattle.machine.specs.declared.Process.{Process}
 use Rattle.machine.specs.declared.State.{State}
 use Rattle.machine.proofs.Facts.Tests.{by-cond, both, and-left, and-right, all-of}
 use Rattle.machine.proofs.Facts.Below.{all-in, all-at}
+use Rattle.machine.proofs.Facts.Checks.{all-passed}
 
 -- the four numbers of a setup, within their limits
 pub record Limits (n l g b : ℕ) : Type 0 where
@@ -31,28 +32,19 @@ pub record Limits (n l g b : ℕ) : Type 0 where
   pub b8 : b ≤ 8
   pub k64 : names l g b ≤ 64
 
--- an answer of 0 means that every check passed
-passed : (t : Bool) (a r : ℕ) → cond t r (1 + a) ≡ 0 → (t ≡ true) × (r ≡ 0)
-passed true a r e = (refl, e)
-passed false a r e = absurd (omega arith)
-
 pub limits-of : (n l g b : ℕ) → setupAnswer n l g b ≡ 0 → Limits n l g b
 unfolding setupAnswer
 limits-of n l g b e =
-    let p1 = passed (within 1 64 n) 0 _ e in
-    let p2 = passed (isLeaves l) 1 _ (p1 .1) in
-    let p3 = passed (within 1 8 g) 2 _ (p2 .1) in
-    let p4 = passed (within 1 8 b) 3 _ (p3 .1) in
-    let p5 = passed (leb (names l g b) 64) 4 _ (p4 .1) in
+    let p = all-passed (setupChecks n l g b) refl e in
     record {
-      n1 = leb-true 1 n (and-left (leb 1 n) (leb n 64) (p1 .0));
-      n64 = leb-true n 64 (and-right (leb 1 n) (leb n 64) (p1 .0));
-      leaves = p2 .0;
-      g1 = leb-true 1 g (and-left (leb 1 g) (leb g 8) (p3 .0));
-      g8 = leb-true g 8 (and-right (leb 1 g) (leb g 8) (p3 .0));
-      b1 = leb-true 1 b (and-left (leb 1 b) (leb b 8) (p4 .0));
-      b8 = leb-true b 8 (and-right (leb 1 b) (leb b 8) (p4 .0));
-      k64 = leb-true (names l g b) 64 (p5 .0);
+      n1 = leb-true 1 n (and-left (leb 1 n) (leb n 64) (p .0));
+      n64 = leb-true n 64 (and-right (leb 1 n) (leb n 64) (p .0));
+      leaves = p .1 .0;
+      g1 = leb-true 1 g (and-left (leb 1 g) (leb g 8) (p .1 .1 .0));
+      g8 = leb-true g 8 (and-right (leb 1 g) (leb g 8) (p .1 .1 .0));
+      b1 = leb-true 1 b (and-left (leb 1 b) (leb b 8) (p .1 .1 .1 .0));
+      b8 = leb-true b 8 (and-right (leb 1 b) (leb b 8) (p .1 .1 .1 .0));
+      k64 = leb-true (names l g b) 64 (p .1 .1 .1 .1 .0);
     }
 
 pub answer-of : (n l g b : ℕ) → Limits n l g b → setupAnswer n l g b ≡ 0

@@ -14,7 +14,7 @@ use Rattle.renaming_claim.specs.Claim.{Claim, afterList}
 use Rattle.renaming_claim.proofs.Theorem as claim
 use Rattle.whole_list.specs.Calls.{SetUp, Calls, stateAt, Ran}
 use Rattle.whole_list.specs.Whole.{Whole, Listed, ownState}
-use Rattle.whole_list.proofs.Accepted.{passed, is-fresh, ran-accepted}
+use Rattle.whole_list.proofs.Accepted.{passed, is-fresh, run-state, run-written}
 use Rattle.whole_list.proofs.Agrees.{agrees}
 use Rattle.whole_list.proofs.Chain.{answers-are, states-are, own-states-are, last-state-is, entries-are}
 
@@ -49,8 +49,8 @@ module _ (n l g b : ℕ) (d₀ : Done) (set : SetUp n l g b d₀) (accepted : d�
 pub list-call : (κs : Lfts 2) (s : State) (bytes lent bytes′ lent′ : RefT (List ℕ)) (d : Done) → Ran κs s bytes lent d bytes′ lent′ → d .answer ≡ 0
     → (ds : List Done) → Calls s (eventsOf (now bytes)) ds → Listed s (now bytes) (now lent) ds d (now lent′)
 list-call κs s bytes lent bytes′ lent′ d ran accepted ds calls =
-    let e = ran-accepted s (now bytes) (now lent) (sym (ap (λ (x : Done). x .answer) (ran .0)) ∙ accepted) in
+    let zero = sym (ap (λ (x : Done). x .answer) (ran .0)) ∙ accepted in
     record {
-      state = ap (λ (x : Done). x .state) (ran .0) ∙ e .0 ∙ sym (last-state-is calls);
-      entries = ran .1 ∙ e .1 ∙ ap (λ (j : List ℕ). j ++ drop (journalLength (now bytes)) (now lent)) (sym (entries-are calls));
+      state = ap (λ (x : Done). x .state) (ran .0) ∙ run-state s (now bytes) (now lent) zero ∙ sym (last-state-is calls);
+      entries = ran .1 ∙ run-written s (now bytes) (now lent) zero ∙ ap (λ (j : List ℕ). j ++ drop (journalLength (now bytes)) (now lent)) (sym (entries-are calls));
     }

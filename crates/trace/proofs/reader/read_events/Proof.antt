@@ -1,0 +1,64 @@
+-- `read_events` meets its contract: the part from byte 27 is the file without its first 27 bytes. Assumes nothing.
+use mathlib.Core.Path.{_≡_, sym, _∙_}
+use Prim.Native.Nat.{_-_, _≤_}
+use native.Mathlib.Nat.{le-refl}
+use lib.ListN.{length, drop, length-drop}
+use lib.Seq.{take-all}
+use Rattle.trace.specs.Layout.{fileAnswer, readEvents}
+use Rattle.trace.proofs.Accepted.{long, has-layout}
+use Rattle.operations.proofs.Rules.{tests}
+use borrow.Author.Needs.{needs}
+use Rattle.trace.proofs.reader.read_events.Statement.{statement}
+use Rattle.trace.proofs.reader.read_events.Tie as tie
+
+file-answer-requires : tie.Need-file-answer-requires
+file-answer-requires c κs = search needs
+
+sub-result : tie.Need-sub-result
+sub-result c = search needs
+
+part-result-start : tie.Need-part-result-start
+part-result-start c = search needs
+
+part-result-end : tie.Need-part-result-end
+part-result-end c = search needs
+
+returns : tie.Need-returns
+unfolding readEvents
+returns c = search (tests, sym (c .before .before .file-answer .ensures))
+
+-- past the refusal
+answered : (c : tie.Else1) → fileAnswer (c .before .before .before .args .file .now) ≡ 0
+answered c = sym (c .before .file-answer .ensures) ∙ c .if1 .left
+
+at-least : (c : tie.Else1) → 27 ≤ length (c .before .before .before .args .file .now)
+at-least c = long _ (has-layout _ (answered c))
+
+sub-result-2 : tie.Need-sub-result-2
+sub-result-2 c = at-least c
+
+part-result-start-2 : tie.Need-part-result-start-2
+part-result-start-2 c = at-least c
+
+part-result-end-2 : tie.Need-part-result-end-2
+part-result-end-2 c = search needs
+
+returns-2 : tie.Need-returns-2
+unfolding readEvents
+returns-2 c =
+    let f = c .before .before .before .before .args .file .now in
+    search (tests, answered (c .before), take-all (length f - 27) (drop 27 f) (simp length-drop (le-refl _)))
+
+pub read-events-spec : {M : Type 1} → statement M
+read-events-spec =
+    tie.close
+    (tie.spec
+    file-answer-requires
+    sub-result
+    part-result-start
+    part-result-end
+    returns
+    sub-result-2
+    part-result-start-2
+    part-result-end-2
+    returns-2)

@@ -1,0 +1,2 @@
+-- What a trace file is, and what its reader gives.
+pub mod Layout
