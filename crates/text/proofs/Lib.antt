@@ -1,0 +1,7 @@
+-- What the functions' proofs share.
+pub mod Digits
+pub mod Entries
+pub mod Runs
+pub mod Writing
+pub mod Filled
+pub mod FileRuns

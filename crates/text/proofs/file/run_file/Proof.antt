@@ -1,0 +1,33 @@
+-- `run_file` meets its contract: the list call wrote the journal of the file's events. Assumes nothing.
+use Rattle.text.proofs.FileRuns.{file-journal, file-journal-size}
+use borrow.Author.Needs.{needs}
+use Rattle.text.proofs.file.run_file.Statement.{statement}
+use Rattle.text.proofs.file.run_file.Tie as tie
+
+read-setup-requires : tie.Need-read-setup-requires
+read-setup-requires c κs = search needs
+
+read-events-requires : tie.Need-read-events-requires
+read-events-requires c κs = search needs
+
+run-requires : tie.Need-run-requires
+run-requires c κs = search needs
+
+mul-result : tie.Need-mul-result
+mul-result c = search needs
+
+same-length : tie.Need-same-length
+same-length c = search needs
+
+returns : tie.Need-returns
+returns c =
+    let s = c .before .before .before .before .before .before .before .before in
+    let f = s .args .file .now in
+    let j = s .args .journal .now in
+    rw (c .before .before .run .ensures .1, c .before .before .before .before .before .read-setup .ensures, c .before .before .before .before .read-events .ensures)
+    (file-journal-size f j (s .pre .0) (s .pre .1), file-journal f j (s .pre .0) (s .pre .1))
+
+pub run-file-spec : {M : Type 1} → statement M
+run-file-spec =
+    tie.close
+    (tie.spec read-setup-requires read-events-requires run-requires mul-result same-length returns)
