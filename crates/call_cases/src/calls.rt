@@ -1,7 +1,7 @@
 // One record of the input: a state's image, the call's number, and what the call is given besides. 0 is an event, with its
 // kind and its process; 1 a list, with the events' length, the journal's length and the events; 2 the gate report.
-use crate::image;
-use crate::line;
+use cases::image;
+use cases::line;
 use machine::Done;
 use machine::State;
 use renaming::event;

@@ -2,8 +2,6 @@
 // each: what the call answered, and what it left in the state and in the journal. The lines to compare with, in the file
 // `stdout`, come from a simulator of other authorship.
 mod calls;
-mod image;
-mod line;
 
 // A proved loop has to end, and nothing says that the input does. So the loop counts its turns down, from a number that no
 // run uses up.

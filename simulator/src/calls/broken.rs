@@ -1,0 +1,154 @@
+//! States with one number outside its range.
+
+use super::reached::{accepted_event, accepted_pair, mid_run, SETUPS};
+use super::Records;
+use crate::random::Random;
+use crate::state::{Process, State, MAX};
+
+fn changed(good: &State, change: impl FnOnce(&mut State)) -> State {
+    let mut state = good.clone();
+    change(&mut state);
+    state
+}
+
+/// The four setup numbers at both ends, and k above 64, by b alone where
+/// that is enough. With one leaf k cannot be above 64.
+fn setup_numbers(good: &State) -> Vec<State> {
+    let mut states = Vec::new();
+    for n in [0, 65] {
+        states.push(changed(good, |s| s.n = n));
+    }
+    for l in [0, 3, 32] {
+        states.push(changed(good, |s| s.l = l));
+    }
+    for g in [0, 9] {
+        states.push(changed(good, |s| s.g = g));
+    }
+    for b in [0, 9] {
+        states.push(changed(good, |s| s.b = b));
+    }
+    let wide = u16::from(good.l) * u16::from(good.g) * 8;
+    if wide > 64 {
+        states.push(changed(good, |s| s.b = 8));
+    } else if good.l > 1 {
+        states.push(changed(good, |s| (s.g, s.b) = (8, 8)));
+    }
+    states
+}
+
+fn gate(good: &State) -> Vec<State> {
+    vec![
+        changed(good, |s| s.gate = -65),
+        changed(good, |s| s.gate = s.names() as i8 + 1),
+    ]
+}
+
+/// A queue of at least two, so that it has a first and a last place.
+fn with_queue(good: &State) -> State {
+    changed(good, |s| {
+        if s.queue_len < 2 {
+            s.queue[..2].copy_from_slice(&[0, s.n - 1]);
+            s.queue_len = 2;
+        }
+    })
+}
+
+fn queue(good: &State) -> Vec<State> {
+    let queued = with_queue(good);
+    let len = usize::from(queued.queue_len);
+    let mut states = vec![
+        changed(good, |s| s.queue_len = 65),
+        changed(good, |s| s.queue_len = 255),
+        changed(&queued, |s| s.queue[0] = s.n),
+        changed(&queued, |s| s.queue[len - 1] = s.n),
+        changed(good, |s| {
+            s.queue_len = MAX as u8;
+            s.queue[MAX - 1] = s.n;
+        }),
+    ];
+    let end = usize::from(good.queue_len);
+    if end < MAX {
+        states.push(changed(good, |s| s.queue[end] = 1));
+        states.push(changed(good, |s| s.queue[MAX - 1] = 1));
+    }
+    states
+}
+
+fn counters(good: &State) -> Vec<State> {
+    (1..usize::from(good.l))
+        .map(|v| changed(good, |s| s.counters[v] = s.fresh_counter(v) + 1))
+        .collect()
+}
+
+/// A word of eight bits cannot break.
+fn segments(good: &State) -> Vec<State> {
+    let used = usize::from(good.l) * usize::from(good.g);
+    let words = if good.b < 8 { 0..used } else { 0..0 };
+    words
+        .map(|r| changed(good, |s| s.segments[r] = 1 << s.b))
+        .collect()
+}
+
+fn process(good: &State, p: usize) -> Vec<State> {
+    let [l, g, k] = [good.l, good.g, good.names()];
+    let changes: [&dyn Fn(&mut Process); 7] = [
+        &|x| x.stage = 7,
+        &|x| x.stage = 255,
+        &|x| x.node = 0,
+        &|x| x.node = 2 * l,
+        &|x| x.segment = g,
+        &|x| x.name = k,
+        &|x| x.name = 254,
+    ];
+    changes
+        .iter()
+        .map(|change| changed(good, |s| change(&mut s.processes[p])))
+        .collect()
+}
+
+/// The first process, a middle one and process N - 1.
+fn processes(good: &State) -> Vec<State> {
+    let n = usize::from(good.n);
+    let mut chosen = vec![0, n / 2, n - 1];
+    chosen.dedup();
+    chosen.into_iter().flat_map(|p| process(good, p)).collect()
+}
+
+/// States with a number other than the setup's outside its range.
+fn machine_numbers(good: &State) -> Vec<State> {
+    let mut states = gate(good);
+    states.extend(queue(good));
+    states.extend(counters(good));
+    states.extend(segments(good));
+    states.extend(processes(good));
+    states
+}
+
+/// All states that differ from a good one by one number outside its range.
+pub fn states(good: &State) -> Vec<State> {
+    let mut states = setup_numbers(good);
+    states.extend(machine_numbers(good));
+    states
+}
+
+/// Each broken state with an event and a list that the good one accepts,
+/// and with the gate report.
+fn try_all(records: &mut Records, good: &State, states: &[State]) {
+    for (index, state) in states.iter().enumerate() {
+        let [kind, process] = accepted_event(good, index);
+        records.event(state, kind, process);
+        records.list(state, &accepted_pair(good, index), 8);
+        records.report(state);
+    }
+}
+
+/// The setup's own numbers are broken for the small and the largest setup.
+pub fn add(records: &mut Records, rng: &mut Random) {
+    let [small, middle, largest] = SETUPS.map(|setup| mid_run(rng, setup));
+    try_all(records, &small, &states(&small));
+    try_all(records, &middle, &machine_numbers(&middle));
+    try_all(records, &largest, &states(&largest));
+    records.event(&State::BLANK, 0, 0);
+    records.list(&State::BLANK, &[0, 0, 1, 0], 8);
+    records.report(&State::BLANK);
+}

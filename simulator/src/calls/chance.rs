@@ -1,0 +1,156 @@
+//! Random states: every number at random within its range, and one in six
+//! broken at one place.
+
+use super::{broken, ends, Records};
+use crate::cases::chance::setup;
+use crate::cases::schedule::natural_kind;
+use crate::random::Random;
+use crate::state::{Process, State, MAX, NO_NAME};
+
+fn fill_queue(rng: &mut Random, state: &mut State) {
+    state.queue_len = match rng.below(6) {
+        0 => 0,
+        1 => MAX as u8,
+        2 | 3 => rng.between(0, 3),
+        _ => rng.between(0, MAX as u8),
+    };
+    for place in 0..usize::from(state.queue_len) {
+        state.queue[place] = rng.byte_below(state.n);
+    }
+}
+
+fn fill_gate(rng: &mut Random, state: &mut State) {
+    let k = state.names() as i8;
+    state.gate = match rng.below(6) {
+        0 => -64,
+        1 => k,
+        2 => 0,
+        _ => rng.between(0, state.names() + 64) as i8 - 64,
+    };
+}
+
+fn fill_words(rng: &mut Random, state: &mut State) {
+    for v in 1..usize::from(state.l) {
+        let highest = state.fresh_counter(v);
+        state.counters[v] = match rng.below(4) {
+            0 => 0,
+            1 => highest,
+            _ => rng.between(0, highest),
+        };
+    }
+    let full = 0xFF >> (8 - state.b);
+    for r in 0..usize::from(state.l) * usize::from(state.g) {
+        state.segments[r] = if rng.chance(1, 3) {
+            full
+        } else {
+            rng.byte() & full
+        };
+    }
+}
+
+fn process(rng: &mut Random, state: &State) -> Process {
+    Process {
+        stage: rng.between(0, 6),
+        node: rng.between(1, 2 * state.l - 1),
+        segment: rng.byte_below(state.g),
+        name: if rng.chance(1, 2) {
+            NO_NAME
+        } else {
+            rng.byte_below(state.names())
+        },
+        steps: match rng.below(5) {
+            0 => 255,
+            1 => rng.between(0, 12),
+            _ => rng.byte(),
+        },
+    }
+}
+
+/// A state in range; unused places are 0 or anything.
+pub fn state(rng: &mut Random) -> State {
+    let [n, l, g, b] = setup(rng);
+    let mut state = State {
+        n,
+        l,
+        g,
+        b,
+        ..State::BLANK
+    };
+    fill_gate(rng, &mut state);
+    fill_queue(rng, &mut state);
+    fill_words(rng, &mut state);
+    for p in 0..usize::from(n) {
+        state.processes[p] = process(rng, &state);
+    }
+    if rng.chance(1, 2) {
+        ends::fill_unused(&mut state, || rng.byte());
+    }
+    state
+}
+
+/// Mostly an event that the process's stage accepts.
+fn event(rng: &mut Random, state: &State) -> [u8; 2] {
+    let process = rng.byte_below(state.n);
+    match rng.below(16) {
+        0 => [rng.byte(), rng.byte()],
+        1 => [rng.byte_below(3), state.n],
+        2 => [rng.byte(), process],
+        3 | 4 => [rng.byte_below(3), process],
+        _ => [
+            natural_kind(state.processes[usize::from(process)].stage),
+            process,
+        ],
+    }
+}
+
+/// Events for a list; half of them are about one process.
+fn list(rng: &mut Random, state: &State) -> Vec<u8> {
+    let mut after = state.clone();
+    let mut events = Vec::new();
+    let count = rng.below(13);
+    let mut last = rng.byte_below(state.n);
+    for _ in 0..count {
+        let [kind, process] = if rng.chance(1, 2) {
+            [natural_kind(after.processes[usize::from(last)].stage), last]
+        } else {
+            event(rng, &after)
+        };
+        after.event(kind, process);
+        events.extend([kind, process]);
+        if process < state.n {
+            last = process;
+        }
+    }
+    if rng.chance(1, 24) {
+        events.push(rng.byte());
+    }
+    events
+}
+
+fn add_list(records: &mut Records, rng: &mut Random, good: &State, state: &State) {
+    let events = list(rng, good);
+    let right = (events.len() * 2) as u8;
+    let journal_len = match rng.below(12) {
+        0 => right.saturating_sub(1),
+        1 => right + rng.between(1, 9),
+        _ => right,
+    };
+    records.list(state, &events, journal_len);
+}
+
+pub fn add(records: &mut Records, rng: &mut Random) {
+    let good = state(rng);
+    let mut state = good.clone();
+    if rng.chance(1, 6) {
+        let mut states = broken::states(&good);
+        state = states.swap_remove(rng.below(states.len()));
+    }
+    match rng.below(9) {
+        0 => records.report(&state),
+        1..=5 => {
+            let [kind, process] = event(rng, &good);
+            records.event(&state, kind, process);
+        }
+        _ => add_list(records, rng, &good, &state),
+    }
+}

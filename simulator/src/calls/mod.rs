@@ -1,0 +1,106 @@
+//! Hand-made states driven through the calls.
+
+pub mod broken;
+pub mod chance;
+pub mod ends;
+pub mod orders;
+pub mod outside;
+pub mod reached;
+
+use crate::image::digest;
+use crate::random::Random;
+use crate::state::State;
+use std::path::Path;
+use std::{fs, io};
+
+/// What a lent journal holds beforehand.
+const UNTOUCHED: u8 = 170;
+
+/// Both files as they grow, up to a number of records.
+pub struct Records {
+    pub input: Vec<u8>,
+    pub output: String,
+    pub count: usize,
+    limit: usize,
+}
+
+impl Records {
+    pub fn new(limit: usize) -> Records {
+        Records {
+            input: Vec::new(),
+            output: String::new(),
+            count: 0,
+            limit,
+        }
+    }
+
+    pub fn full(&self) -> bool {
+        self.count >= self.limit
+    }
+
+    /// Adds one record unless the limit is reached.
+    fn add(&mut self, state: &State, call: &[u8], line: &str) {
+        if self.full() {
+            return;
+        }
+        self.input.extend(state.to_image());
+        self.input.extend(call);
+        self.output.push_str(line);
+        self.output.push('\n');
+        self.count += 1;
+    }
+
+    pub fn event(&mut self, state: &State, kind: u8, process: u8) {
+        let mut after = state.clone();
+        let answer = after.event(kind, process);
+        let line = format!("event {answer} {}", digest(&after.to_image()));
+        self.add(state, &[0, kind, process], &line);
+    }
+
+    /// At most 255 event bytes.
+    pub fn list(&mut self, state: &State, events: &[u8], journal_len: u8) {
+        let mut after = state.clone();
+        let mut journal = vec![UNTOUCHED; usize::from(journal_len)];
+        let answer = after.run(events, &mut journal);
+        let mut line = format!("list {answer} {}", digest(&after.to_image()));
+        for byte in journal {
+            line.push_str(&format!(" {byte}"));
+        }
+        let mut call = vec![1, events.len() as u8, journal_len];
+        call.extend(events);
+        self.add(state, &call, &line);
+    }
+
+    pub fn report(&mut self, state: &State) {
+        let report = state.gate_report();
+        let line = format!("report {} {} {}", report.answer, report.open, report.queued);
+        self.add(state, &[2], &line);
+    }
+}
+
+/// The records that come first.
+pub fn fixed(records: &mut Records, rng: &mut Random) {
+    broken::add(records, rng);
+    ends::add(records, rng);
+    outside::add(records);
+    orders::add(records, rng);
+}
+
+/// The first `count` records of a seed.
+pub fn all(seed: u64, count: usize) -> Records {
+    let mut rng = Random::new(seed);
+    let mut records = Records::new(count);
+    fixed(&mut records, &mut rng);
+    while !records.full() {
+        chance::add(&mut records, &mut rng);
+    }
+    records
+}
+
+/// Writes both files into the folder.
+pub fn write(seed: u64, count: usize, folder: &Path) -> io::Result<()> {
+    fs::create_dir_all(folder)?;
+    let records = all(seed, count);
+    fs::write(folder.join("calls.in"), &records.input)?;
+    fs::write(folder.join("calls.out"), &records.output)
+}

@@ -1,0 +1,68 @@
+//! States reached in mid-run, and events that they accept.
+
+use crate::answer::ACCEPTED;
+use crate::cases::schedule::{natural_kind, ListMaker, Plan, Schedule};
+use crate::random::Random;
+use crate::state::{stage, State};
+
+/// The setups whose ranges are broken one by one: small with N above k,
+/// middle with N below k, largest.
+pub const SETUPS: [[u8; 4]; 3] = [[5, 2, 1, 1], [7, 4, 2, 2], [64, 16, 2, 2]];
+
+pub fn fresh(setup: [u8; 4]) -> State {
+    let [n, l, g, b] = setup;
+    State::setup(n, l, g, b).expect("an accepted setup")
+}
+
+fn any_in(state: &State, stage: u8) -> bool {
+    let used = &state.processes[..usize::from(state.n)];
+    used.iter().any(|p| p.stage == stage)
+}
+
+/// Workers, one in putname and, where N is above k, a queue of two.
+fn busy(state: &State) -> bool {
+    let crowded = state.n >= state.names() + 2;
+    any_in(state, stage::WORKING)
+        && any_in(state, stage::PUTNAME)
+        && (!crowded || state.queue_len >= 2)
+}
+
+/// A state reached by a list of events, usually a busy one.
+pub fn mid_run(rng: &mut Random, setup: [u8; 4]) -> State {
+    let plan = Plan {
+        schedule: Schedule::Uniform,
+        pool: 64,
+        noise: 0,
+    };
+    let mut maker = ListMaker::new(rng, setup, plan);
+    maker.lively(8 * usize::from(setup[0]));
+    for _ in 0..4000 {
+        if busy(&maker.state) {
+            break;
+        }
+        maker.lively(1);
+    }
+    maker.state
+}
+
+/// An event that the state accepts, looked for from process `start` on.
+pub fn accepted_event(state: &State, start: usize) -> [u8; 2] {
+    let n = usize::from(state.n);
+    for place in 0..n {
+        let process = ((start + place) % n) as u8;
+        let kind = natural_kind(state.processes[usize::from(process)].stage);
+        if state.clone().event(kind, process) == ACCEPTED {
+            return [kind, process];
+        }
+    }
+    [0, 0]
+}
+
+/// A list of two events that the state accepts one after the other.
+pub fn accepted_pair(state: &State, start: usize) -> [u8; 4] {
+    let mut after = state.clone();
+    let [kind, process] = accepted_event(&after, start);
+    after.event(kind, process);
+    let [next_kind, next_process] = accepted_event(&after, start + 1);
+    [kind, process, next_kind, next_process]
+}

@@ -1,0 +1,71 @@
+//! The state image, one byte for each number, and its digest.
+
+use crate::state::{Process, State, COUNTERS, MAX};
+
+/// Length of a state image.
+pub const IMAGE_BYTES: usize = 6 + MAX + COUNTERS + MAX + 5 * MAX;
+
+const QUEUE: usize = 6;
+const COUNTER: usize = QUEUE + MAX;
+const SEGMENT: usize = COUNTER + COUNTERS;
+const PROCESS: usize = SEGMENT + MAX;
+
+impl State {
+    /// The state that an image describes, in range or not.
+    pub fn from_image(image: &[u8; IMAGE_BYTES]) -> State {
+        let mut state = State {
+            n: image[0],
+            l: image[1],
+            g: image[2],
+            b: image[3],
+            gate: image[4] as i8,
+            queue_len: image[5],
+            ..State::BLANK
+        };
+        state.queue.copy_from_slice(&image[QUEUE..COUNTER]);
+        state.counters.copy_from_slice(&image[COUNTER..SEGMENT]);
+        state.segments.copy_from_slice(&image[SEGMENT..PROCESS]);
+        for (process, bytes) in state
+            .processes
+            .iter_mut()
+            .zip(image[PROCESS..].chunks_exact(5))
+        {
+            *process = Process {
+                stage: bytes[0],
+                node: bytes[1],
+                segment: bytes[2],
+                name: bytes[3],
+                steps: bytes[4],
+            };
+        }
+        state
+    }
+
+    /// The image of the state.
+    pub fn to_image(&self) -> [u8; IMAGE_BYTES] {
+        let mut image = [0; IMAGE_BYTES];
+        let head = [
+            self.n,
+            self.l,
+            self.g,
+            self.b,
+            self.gate as u8,
+            self.queue_len,
+        ];
+        image[..QUEUE].copy_from_slice(&head);
+        image[QUEUE..COUNTER].copy_from_slice(&self.queue);
+        image[COUNTER..SEGMENT].copy_from_slice(&self.counters);
+        image[SEGMENT..PROCESS].copy_from_slice(&self.segments);
+        for (bytes, p) in image[PROCESS..].chunks_exact_mut(5).zip(&self.processes) {
+            bytes.copy_from_slice(&[p.stage, p.node, p.segment, p.name, p.steps]);
+        }
+        image
+    }
+}
+
+/// d = 0, then d = (d * 31 + x) mod 65521 for each byte x.
+pub fn digest(bytes: &[u8]) -> u32 {
+    bytes
+        .iter()
+        .fold(0, |d, &x| (d * 31 + u32::from(x)) % 65521)
+}

@@ -1,0 +1,30 @@
+//! An independent simulator of document 01's machine, written from documents
+//! 01 and 02 alone. None of document 02's requests is built here.
+//!
+//! The code uses the field's terms: process (handset), name (pad), segment
+//! (row of a leaf), steps (spent), request, step and release (ask, turn and
+//! finish), getname and putname (claim and return). Formats, commands and
+//! output keep the document's words.
+
+pub mod answer;
+pub mod calls;
+pub mod cases;
+pub mod day_file;
+pub mod image;
+mod machine;
+pub mod morning;
+pub mod operations;
+pub mod random;
+mod range;
+pub mod reports;
+pub mod state;
+pub mod text;
+
+#[cfg(test)]
+mod tests;
+
+pub use day_file::read_day_file;
+pub use image::{digest, IMAGE_BYTES};
+pub use reports::{GateReport, Status};
+pub use state::{Process, State};
+pub use text::{file_text, journal_text};

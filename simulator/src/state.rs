@@ -1,0 +1,157 @@
+//! The machine's state and its setup.
+
+use crate::answer;
+
+/// Most processes, names, segments and queue places.
+pub const MAX: usize = 64;
+/// Places for counters; node v stands at place v, place 0 is unused.
+pub const COUNTERS: usize = 16;
+/// The name of a process that has none.
+pub const NO_NAME: u8 = 255;
+
+/// Stages of a process.
+pub mod stage {
+    /// Document 01: idle.
+    pub const REMAINDER: u8 = 0;
+    /// Document 01: asking.
+    pub const ENTRY: u8 = 1;
+    /// Document 01: waiting.
+    pub const WAITING: u8 = 2;
+    /// Document 01: claiming.
+    pub const GETNAME: u8 = 3;
+    /// Document 01: holding.
+    pub const WORKING: u8 = 4;
+    /// Document 01: returning.
+    pub const PUTNAME: u8 = 5;
+    /// Document 01: astray.
+    pub const EXHAUSTED: u8 = 6;
+}
+
+/// One process (document 01: handset).
+#[derive(Clone, Copy, PartialEq, Eq, Debug)]
+pub struct Process {
+    pub stage: u8,
+    pub node: u8,
+    /// Segment within the leaf (document 01: row).
+    pub segment: u8,
+    /// Name held, or 255 (document 01: pad).
+    pub name: u8,
+    /// Getname steps taken (document 01: spent).
+    pub steps: u8,
+}
+
+impl Process {
+    /// Every number 0.
+    pub const BLANK: Process = Process {
+        stage: 0,
+        node: 0,
+        segment: 0,
+        name: 0,
+        steps: 0,
+    };
+    /// As an accepted setup leaves it.
+    pub const FRESH: Process = Process {
+        stage: stage::REMAINDER,
+        node: 1,
+        segment: 0,
+        name: NO_NAME,
+        steps: 0,
+    };
+}
+
+/// The whole state, in the order of its image.
+#[derive(Clone, PartialEq, Eq, Debug)]
+pub struct State {
+    /// Number of processes, N.
+    pub n: u8,
+    /// Number of leaves, L.
+    pub l: u8,
+    /// Segments in a leaf, g.
+    pub g: u8,
+    /// Bits in a segment, b.
+    pub b: u8,
+    /// Gate word A.
+    pub gate: i8,
+    pub queue_len: u8,
+    pub queue: [u8; MAX],
+    pub counters: [u8; COUNTERS],
+    /// Segment words (document 01: row words).
+    pub segments: [u8; MAX],
+    pub processes: [Process; MAX],
+}
+
+/// Checks the four setup numbers in the document's order and gives k.
+pub fn check_setup(n: u8, l: u8, g: u8, b: u8) -> Result<u8, u8> {
+    if !(1..=64).contains(&n) {
+        return Err(answer::PROCESSES);
+    }
+    if !matches!(l, 1 | 2 | 4 | 8 | 16) {
+        return Err(answer::LEAVES);
+    }
+    if !(1..=8).contains(&g) {
+        return Err(answer::SEGMENTS);
+    }
+    if !(1..=8).contains(&b) {
+        return Err(answer::BITS);
+    }
+    let k = u16::from(l) * u16::from(g) * u16::from(b);
+    if k > 64 {
+        return Err(answer::NAMES);
+    }
+    Ok(k as u8)
+}
+
+impl State {
+    /// The blank state, every number 0; every other call refuses it.
+    pub const BLANK: State = State {
+        n: 0,
+        l: 0,
+        g: 0,
+        b: 0,
+        gate: 0,
+        queue_len: 0,
+        queue: [0; MAX],
+        counters: [0; COUNTERS],
+        segments: [0; MAX],
+        processes: [Process::BLANK; MAX],
+    };
+
+    /// The fresh state of a setup, or the refusal's number; a refused setup
+    /// stands for the blank state.
+    pub fn setup(n: u8, l: u8, g: u8, b: u8) -> Result<State, u8> {
+        let k = check_setup(n, l, g, b)?;
+        let mut state = State {
+            n,
+            l,
+            g,
+            b,
+            gate: k as i8,
+            ..State::BLANK
+        };
+        for v in 1..usize::from(l) {
+            state.counters[v] = state.fresh_counter(v);
+        }
+        state.processes[..usize::from(n)].fill(Process::FRESH);
+        Ok(state)
+    }
+
+    /// Number of names, k (document 01: pads). Right for accepted setups.
+    #[inline]
+    pub fn names(&self) -> u8 {
+        self.l.wrapping_mul(self.g).wrapping_mul(self.b)
+    }
+
+    /// Fresh value of node v's counter, k / 2^(d + 1); v is at least 1.
+    #[inline]
+    pub fn fresh_counter(&self, v: usize) -> u8 {
+        let depth = v.max(1).ilog2();
+        self.names().checked_shr(depth + 1).unwrap_or(0)
+    }
+
+    /// Whether the process stands in the queue.
+    #[inline]
+    pub fn queued(&self, process: u8) -> bool {
+        let len = usize::from(self.queue_len).min(MAX);
+        self.queue[..len].contains(&process)
+    }
+}
