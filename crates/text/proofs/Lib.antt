@@ -5,3 +5,5 @@ pub mod Runs
 pub mod Writing
 pub mod Filled
 pub mod FileRuns
+pub mod Decimal
+pub mod Controls

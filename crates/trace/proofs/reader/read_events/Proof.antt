@@ -2,6 +2,7 @@
 use mathlib.Core.Path.{_≡_, sym, _∙_}
 use Prim.Native.Nat.{_-_, _≤_}
 use native.Mathlib.Nat.{le-refl}
+use native.Mathlib.Omega.{arith}
 use lib.ListN.{length, drop, length-drop}
 use lib.Seq.{take-all}
 use Rattle.trace.specs.Layout.{fileAnswer, readEvents}
@@ -35,10 +36,10 @@ at-least : (c : tie.Else1) → 27 ≤ length (c .before .before .before .args .f
 at-least c = long _ (has-layout _ (answered c))
 
 sub-result-2 : tie.Need-sub-result-2
-sub-result-2 c = at-least c
+sub-result-2 c = omega (arith, at-least c)
 
 part-result-start-2 : tie.Need-part-result-start-2
-part-result-start-2 c = at-least c
+part-result-start-2 c = omega (arith, at-least c)
 
 part-result-end-2 : tie.Need-part-result-end-2
 part-result-end-2 c = search needs
