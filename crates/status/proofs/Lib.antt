@@ -1,0 +1,2 @@
+-- What the proofs of the status list rest on.
+pub mod Written

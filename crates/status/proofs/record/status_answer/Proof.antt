@@ -1,0 +1,31 @@
+-- `status_answer` meets its contract: each return rewrites with the tests that led there. Assumes nothing.
+use mathlib.Core.Path.{_≡_, sym, _∙_}
+use mathlib.Core.Bool.{true}
+use borrow.Author.Needs.{needs}
+use borrow.Author.Tests.{not-true, not-false, lt-leb, le-leb}
+use Rattle.machine.specs.Reports.{statusAnswer}
+use Rattle.status.proofs.record.status_answer.Statement.{statement}
+use Rattle.status.proofs.record.status_answer.Tie as tie
+
+in-range-requires : tie.Need-in-range-requires
+in-range-requires c κs = search needs
+
+returns : tie.Need-returns
+unfolding statusAnswer
+returns c = λ records long. rw (sym (c .before .in-range .ensures) ∙ not-true _ (c .if1 .taken))
+
+cast-n : tie.Need-cast-n
+cast-n c = search needs
+
+returns-2 : tie.Need-returns-2
+unfolding statusAnswer
+returns-2 c = λ records long.
+    rw (sym (c .before .before .before .in-range .ensures) ∙ not-false _ (c .before .before .if1 .left), long, lt-leb _ _ (c .if2 .taken))
+
+returns-3 : tie.Need-returns-3
+unfolding statusAnswer
+returns-3 c = λ records long.
+    rw (sym (c .before .before .before .in-range .ensures) ∙ not-false _ (c .before .before .if1 .left), long, le-leb _ _ (c .if2 .left))
+
+pub status-answer-spec : {M : Type 1} → statement M
+status-answer-spec = tie.close (tie.spec in-range-requires returns cast-n returns-2 returns-3)
