@@ -1,6 +1,5 @@
 -- `status_answer` meets its contract: each return rewrites with the tests that led there. Assumes nothing.
-use mathlib.Core.Path.{_≡_, sym, _∙_}
-use mathlib.Core.Bool.{true}
+use mathlib.Core.Path.{sym, _∙_}
 use borrow.Author.Needs.{needs}
 use borrow.Author.Tests.{not-true, not-false, lt-leb, le-leb}
 use Rattle.machine.specs.Reports.{statusAnswer}
