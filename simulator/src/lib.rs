@@ -17,6 +17,7 @@ pub mod operations;
 pub mod random;
 mod range;
 pub mod reports;
+pub mod rolls;
 pub mod state;
 pub mod text;
 

@@ -6,11 +6,12 @@ use std::path::Path;
 use std::process::ExitCode;
 use std::{env, fs};
 
-use simulator::{calls, cases, file_text, morning};
+use simulator::{calls, cases, file_text, morning, rolls};
 
 const USAGE: &str = "usage: simulator run FILE
        simulator cases SEED COUNT DIR
        simulator calls SEED COUNT DIR
+       simulator rolls SEED COUNT DIR
        simulator morning SEED FILE";
 
 enum Failure {
@@ -55,6 +56,10 @@ fn command(arguments: &[OsString]) -> Result<(), Failure> {
         (Some("calls"), [seed, count, folder]) => {
             let (seed, count) = (number(seed)?, number(count)?);
             Ok(calls::write(seed, count, Path::new(folder))?)
+        }
+        (Some("rolls"), [seed, count, folder]) => {
+            let (seed, count) = (number(seed)?, number(count)?);
+            Ok(rolls::write(seed, count, Path::new(folder))?)
         }
         (Some("morning"), [seed, file]) => Ok(fs::write(file, morning::file(number(seed)?))?),
         _ => Err(Failure::Usage),

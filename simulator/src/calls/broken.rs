@@ -5,6 +5,9 @@ use super::Records;
 use crate::random::Random;
 use crate::state::{Process, State, MAX};
 
+/// States with one kind of number outside its range.
+type Kind = Vec<State>;
+
 fn changed(good: &State, change: impl FnOnce(&mut State)) -> State {
     let mut state = good.clone();
     change(&mut state);
@@ -13,30 +16,28 @@ fn changed(good: &State, change: impl FnOnce(&mut State)) -> State {
 
 /// The four setup numbers at both ends, and k above 64, by b alone where
 /// that is enough. With one leaf k cannot be above 64.
-fn setup_numbers(good: &State) -> Vec<State> {
-    let mut states = Vec::new();
-    for n in [0, 65] {
-        states.push(changed(good, |s| s.n = n));
-    }
-    for l in [0, 3, 32] {
-        states.push(changed(good, |s| s.l = l));
-    }
-    for g in [0, 9] {
-        states.push(changed(good, |s| s.g = g));
-    }
-    for b in [0, 9] {
-        states.push(changed(good, |s| s.b = b));
-    }
+fn setup_numbers(good: &State) -> Vec<Kind> {
+    let processes = [0, 65].map(|n| changed(good, |s| s.n = n));
+    let leaves = [0, 3, 32].map(|l| changed(good, |s| s.l = l));
+    let segments = [0, 9].map(|g| changed(good, |s| s.g = g));
+    let bits = [0, 9].map(|b| changed(good, |s| s.b = b));
+    let mut names = Vec::new();
     let wide = u16::from(good.l) * u16::from(good.g) * 8;
     if wide > 64 {
-        states.push(changed(good, |s| s.b = 8));
+        names.push(changed(good, |s| s.b = 8));
     } else if good.l > 1 {
-        states.push(changed(good, |s| (s.g, s.b) = (8, 8)));
+        names.push(changed(good, |s| (s.g, s.b) = (8, 8)));
     }
-    states
+    vec![
+        processes.into(),
+        leaves.into(),
+        segments.into(),
+        bits.into(),
+        names,
+    ]
 }
 
-fn gate(good: &State) -> Vec<State> {
+fn gate(good: &State) -> Kind {
     vec![
         changed(good, |s| s.gate = -65),
         changed(good, |s| s.gate = s.names() as i8 + 1),
@@ -53,12 +54,12 @@ fn with_queue(good: &State) -> State {
     })
 }
 
-fn queue(good: &State) -> Vec<State> {
+/// Its length, its entries and the places past its end.
+fn queue(good: &State) -> Vec<Kind> {
     let queued = with_queue(good);
     let len = usize::from(queued.queue_len);
-    let mut states = vec![
-        changed(good, |s| s.queue_len = 65),
-        changed(good, |s| s.queue_len = 255),
+    let lengths = [65, 255].map(|len| changed(good, |s| s.queue_len = len));
+    let entries = vec![
         changed(&queued, |s| s.queue[0] = s.n),
         changed(&queued, |s| s.queue[len - 1] = s.n),
         changed(good, |s| {
@@ -66,22 +67,23 @@ fn queue(good: &State) -> Vec<State> {
             s.queue[MAX - 1] = s.n;
         }),
     ];
+    let mut past = Vec::new();
     let end = usize::from(good.queue_len);
     if end < MAX {
-        states.push(changed(good, |s| s.queue[end] = 1));
-        states.push(changed(good, |s| s.queue[MAX - 1] = 1));
+        past.push(changed(good, |s| s.queue[end] = 1));
+        past.push(changed(good, |s| s.queue[MAX - 1] = 1));
     }
-    states
+    vec![lengths.into(), entries, past]
 }
 
-fn counters(good: &State) -> Vec<State> {
+fn counters(good: &State) -> Kind {
     (1..usize::from(good.l))
         .map(|v| changed(good, |s| s.counters[v] = s.fresh_counter(v) + 1))
         .collect()
 }
 
 /// A word of eight bits cannot break.
-fn segments(good: &State) -> Vec<State> {
+fn segments(good: &State) -> Kind {
     let used = usize::from(good.l) * usize::from(good.g);
     let words = if good.b < 8 { 0..used } else { 0..0 };
     words
@@ -89,46 +91,55 @@ fn segments(good: &State) -> Vec<State> {
         .collect()
 }
 
-fn process(good: &State, p: usize) -> Vec<State> {
+/// Its stage, node, segment and name.
+fn process(good: &State, p: usize) -> Vec<Kind> {
     let [l, g, k] = [good.l, good.g, good.names()];
-    let changes: [&dyn Fn(&mut Process); 7] = [
-        &|x| x.stage = 7,
-        &|x| x.stage = 255,
-        &|x| x.node = 0,
-        &|x| x.node = 2 * l,
-        &|x| x.segment = g,
-        &|x| x.name = k,
-        &|x| x.name = 254,
-    ];
-    changes
-        .iter()
-        .map(|change| changed(good, |s| change(&mut s.processes[p])))
-        .collect()
+    let one = |change: &dyn Fn(&mut Process)| changed(good, |s| change(&mut s.processes[p]));
+    vec![
+        vec![one(&|x| x.stage = 7), one(&|x| x.stage = 255)],
+        vec![one(&|x| x.node = 0), one(&|x| x.node = 2 * l)],
+        vec![one(&|x| x.segment = g)],
+        vec![one(&|x| x.name = k), one(&|x| x.name = 254)],
+    ]
 }
 
 /// The first process, a middle one and process N - 1.
-fn processes(good: &State) -> Vec<State> {
+fn processes(good: &State) -> Vec<Kind> {
     let n = usize::from(good.n);
     let mut chosen = vec![0, n / 2, n - 1];
     chosen.dedup();
     chosen.into_iter().flat_map(|p| process(good, p)).collect()
 }
 
+/// The gate word, the queue, the counters and the segment words.
+fn shared_numbers(good: &State) -> Vec<Kind> {
+    let mut kinds = vec![gate(good)];
+    kinds.extend(queue(good));
+    kinds.extend([counters(good), segments(good)]);
+    kinds
+}
+
 /// States with a number other than the setup's outside its range.
 fn machine_numbers(good: &State) -> Vec<State> {
-    let mut states = gate(good);
-    states.extend(queue(good));
-    states.extend(counters(good));
-    states.extend(segments(good));
-    states.extend(processes(good));
-    states
+    let mut kinds = shared_numbers(good);
+    kinds.extend(processes(good));
+    kinds.concat()
 }
 
 /// All states that differ from a good one by one number outside its range.
 pub fn states(good: &State) -> Vec<State> {
-    let mut states = setup_numbers(good);
+    let mut states = setup_numbers(good).concat();
     states.extend(machine_numbers(good));
     states
+}
+
+/// The same by kinds, with process `p` for the numbers of a process. A kind
+/// that the setup cannot break is empty.
+pub(crate) fn kinds(good: &State, p: usize) -> Vec<Kind> {
+    let mut kinds = setup_numbers(good);
+    kinds.extend(shared_numbers(good));
+    kinds.extend(process(good, p));
+    kinds
 }
 
 /// Each broken state with an event and a list that the good one accepts,

@@ -138,13 +138,18 @@ fn add_list(records: &mut Records, rng: &mut Random, good: &State, state: &State
     records.list(state, &events, journal_len);
 }
 
+/// The state itself or, one time in six, broken at one place.
+pub(crate) fn perhaps_broken(rng: &mut Random, good: &State) -> State {
+    if rng.chance(1, 6) {
+        let mut states = broken::states(good);
+        return states.swap_remove(rng.below(states.len()));
+    }
+    good.clone()
+}
+
 pub fn add(records: &mut Records, rng: &mut Random) {
     let good = state(rng);
-    let mut state = good.clone();
-    if rng.chance(1, 6) {
-        let mut states = broken::states(&good);
-        state = states.swap_remove(rng.below(states.len()));
-    }
+    let state = perhaps_broken(rng, &good);
     match rng.below(9) {
         0 => records.report(&state),
         1..=5 => {

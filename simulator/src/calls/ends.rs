@@ -20,9 +20,8 @@ fn gate_ends(records: &mut Records, good: &State) {
     }
 }
 
-/// A queue of 64, all of it one process; its waiting step, and a return
-/// that moves the whole queue up.
-fn full_queue(records: &mut Records, good: &State) {
+/// A queue of 64, the last process in all its places but the first.
+pub(crate) fn with_full_queue(good: &State) -> State {
     let mut state = good.clone();
     let last = state.n - 1;
     state.queue = [last; MAX];
@@ -34,25 +33,37 @@ fn full_queue(records: &mut Records, good: &State) {
         stage: stage::PUTNAME,
         ..Process::FRESH
     };
-    records.event(&state, STEP, last);
+    state
+}
+
+/// The waiting step of a process in a queue of 64, and a return that moves
+/// the whole queue up.
+fn full_queue(records: &mut Records, good: &State) {
+    let state = with_full_queue(good);
+    records.event(&state, STEP, state.n - 1);
     records.event(&state, STEP, 0);
     records.list(&state, &[STEP, 0, REQUEST, 0, STEP, 0], 12);
     records.report(&state);
 }
 
 /// A process at the last node, the last segment and the last name, with
-/// steps at 255, in each stage.
+/// steps at 255.
+pub(crate) fn last_places(state: &State, stage: u8) -> Process {
+    Process {
+        stage,
+        node: 2 * state.l - 1,
+        segment: state.g - 1,
+        name: state.names() - 1,
+        steps: 255,
+    }
+}
+
+/// Such a process in each stage.
 fn process_ends(records: &mut Records, good: &State) {
     for stage in stage::REMAINDER..=stage::EXHAUSTED {
         let mut state = good.clone();
         let last = usize::from(state.n) - 1;
-        state.processes[last] = Process {
-            stage,
-            node: 2 * state.l - 1,
-            segment: state.g - 1,
-            name: state.names() - 1,
-            steps: 255,
-        };
+        state.processes[last] = last_places(&state, stage);
         let process = last as u8;
         let events = [STEP, process, RELEASE, process, REQUEST, process];
         records.list(&state, &events, 12);

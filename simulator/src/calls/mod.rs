@@ -9,11 +9,12 @@ pub mod reached;
 
 use crate::image::digest;
 use crate::random::Random;
+use crate::reports::Status;
 use crate::state::State;
 use std::path::Path;
 use std::{fs, io};
 
-/// What a lent journal holds beforehand.
+/// What a lent journal or roll holds beforehand.
 const UNTOUCHED: u8 = 170;
 
 /// Both files as they grow, up to a number of records.
@@ -76,6 +77,33 @@ impl Records {
         let line = format!("report {} {} {}", report.answer, report.open, report.queued);
         self.add(state, &[2], &line);
     }
+
+    /// The roll with `room` lent records. The call has no number, since a
+    /// file of rolls holds nothing else.
+    pub fn roll(&mut self, state: &State, room: u8) {
+        let untouched = Status {
+            stage: UNTOUCHED,
+            name: UNTOUCHED,
+            steps: UNTOUCHED,
+        };
+        let mut lent = vec![untouched; usize::from(room)];
+        let answer = state.fill_roll(&mut lent);
+        let mut line = format!("roll {answer}");
+        for record in lent {
+            line.push_str(&format!(
+                " {} {} {}",
+                record.stage, record.name, record.steps
+            ));
+        }
+        self.add(state, &[room], &line);
+    }
+
+    /// Writes both files into the folder.
+    pub(crate) fn write(&self, folder: &Path, name: &str) -> io::Result<()> {
+        fs::create_dir_all(folder)?;
+        fs::write(folder.join(format!("{name}.in")), &self.input)?;
+        fs::write(folder.join(format!("{name}.out")), &self.output)
+    }
 }
 
 /// The records that come first.
@@ -99,8 +127,5 @@ pub fn all(seed: u64, count: usize) -> Records {
 
 /// Writes both files into the folder.
 pub fn write(seed: u64, count: usize, folder: &Path) -> io::Result<()> {
-    fs::create_dir_all(folder)?;
-    let records = all(seed, count);
-    fs::write(folder.join("calls.in"), &records.input)?;
-    fs::write(folder.join("calls.out"), &records.output)
+    all(seed, count).write(folder, "calls")
 }

@@ -3,6 +3,7 @@
 mod generators;
 mod orders;
 mod refusals;
+mod rolls;
 
 use crate::state::State;
 
