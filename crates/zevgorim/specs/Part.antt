@@ -1,0 +1,11 @@
+-- The events of a day file as a place and a size in it: C cannot be given a slice.
+use mathlib.Core.Bool.{cond}
+use mathlib.Core.List.{List}
+use Prim.Native.Nat.{ℕ}
+use lib.Dec.{eqb}
+use Rattle.trace.specs.Layout.{bodySize, fileAnswer}
+use Rattle.zevgorim.specs.declared.Part.{Part}
+
+-- body 2 begins at byte 27; a refused file has an empty part
+unfoldable pub eventsPart : List ℕ → Part
+eventsPart f = cond (eqb (fileAnswer f) 0) (record { offset = 27; size = bodySize f }) (record { offset = 0; size = 0 })

@@ -1,0 +1,48 @@
+// The day file and what the program prints for it, for C.
+use crate::Part;
+use machine::Done;
+use text::Text;
+use text::file;
+use text::lines;
+use trace::reader;
+ghost use mathlib.Core.Path.{_≡_};
+ghost use Rattle.trace.specs.Layout.{readSetup};
+ghost use Rattle.text.specs.File.{fileText};
+ghost use Rattle.text.specs.Lent.{given, lentAfter};
+ghost use Rattle.text.specs.Lines;
+ghost use Rattle.zevgorim.specs.Part.{eventsPart};
+
+#[no_mangle]
+pub extern "C" fn zevgorim_read_setup(file: &[u8]) -> Done
+    ensures { λ r. ⌜ r ≡ readSetup (now (file .entry)) ⌝ }
+{
+    reader::read_setup(file)
+}
+
+// The events of a file, as a place and a size in it.
+#[no_mangle]
+pub extern "C" fn zevgorim_read_events(file: &[u8]) -> Part
+    ensures { λ r. ⌜ r ≡ eventsPart (now (file .entry)) ⌝ }
+{
+    if reader::file_answer(file) != 0 {
+        return Part { offset: 0, size: 0 };
+    }
+    Part {
+        offset: 27,
+        size: file.len() - 27,
+    }
+}
+
+#[no_mangle]
+pub extern "C" fn zevgorim_journal_text(journal: &[u8], out: &mut [u8]) -> Text
+    ensures { λ r. ⌜ (r ≡ given (Lines.lines (now (journal .entry))) (now (out .entry))) × (now (out .exit) ≡ lentAfter (Lines.lines (now (journal .entry))) (now (out .entry))) ⌝ }
+{
+    lines::journal_text(journal, out)
+}
+
+#[no_mangle]
+pub extern "C" fn zevgorim_file_text(file: &[u8], out: &mut [u8]) -> Text
+    ensures { λ r. ⌜ (r ≡ given (fileText (now (file .entry))) (now (out .entry))) × (now (out .exit) ≡ lentAfter (fileText (now (file .entry))) (now (out .entry))) ⌝ }
+{
+    file::file_text(file, out)
+}

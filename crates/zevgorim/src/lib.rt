@@ -1,0 +1,10 @@
+// The calls for C: each is the call of the same name, behind a prefix. A slice is a pointer and its length.
+pub mod files;
+pub mod states;
+
+// A part of a lent file: where it begins, and how many bytes it has.
+#[repr(C)]
+pub struct Part {
+    pub offset: usize,
+    pub size: usize,
+}
