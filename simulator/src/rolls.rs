@@ -1,7 +1,15 @@
-//! Hand-made states whose roll is called, with lent lists of all lengths.
+//! Rolls filled after a list of events, with lent records of all numbers.
+//!
+//! A record of `rolls.in` is a state image, the number of event bytes, the
+//! events and the number of lent roll records. The list runs with a journal
+//! that is long enough; the roll is filled from the state that it gives
+//! back, which is the lent one where the list is refused.
 
-use crate::calls::reached::{accepted_event, fresh, mid_run, SETUPS};
+use crate::calls::reached::{accepted_event, accepted_pair, busy_list, fresh, mid_run, SETUPS};
 use crate::calls::{broken, chance, ends, Records};
+use crate::cases::chance::setup;
+use crate::cases::shapes::lively_list;
+use crate::machine::kind::{RELEASE, REQUEST, STEP};
 use crate::random::Random;
 use crate::state::{stage, State};
 use std::io;
@@ -10,12 +18,19 @@ use std::path::Path;
 /// Most lent records.
 pub const MOST_ROOM: u8 = 80;
 
+/// Most events of a list, whose length in bytes is an even byte.
+pub const MOST_EVENTS: usize = 127;
+
 /// Words of eight bits with N below k, and the most processes with N far
 /// above k.
 const MORE_SETUPS: [[u8; 4]; 2] = [[12, 1, 2, 8], [64, 1, 2, 1]];
 
 /// One process: N equal to k and below it.
 const LONE_SETUPS: [[u8; 4]; 2] = [[1, 1, 1, 1], [1, 4, 2, 2]];
+
+/// Besides the main setups, fresh states with N above k: a tree whose k is
+/// not small, and the most processes.
+const CROWDED_SETUPS: [[u8; 4]; 2] = [[14, 4, 1, 2], [64, 1, 2, 1]];
 
 /// The only process of the setup, holding a name.
 fn lone_worker(setup: [u8; 4]) -> State {
@@ -27,41 +42,84 @@ fn lone_worker(setup: [u8; 4]) -> State {
     state
 }
 
-/// Lent lists about N, none and the longest.
-fn lengths(records: &mut Records, state: &State) {
-    let mut rooms = vec![0, state.n - 1, state.n, state.n + 1, MOST_ROOM];
+/// One to twelve events, some of them refused.
+fn short_list(rng: &mut Random, state: &State) -> Vec<u8> {
+    let count = 1 + rng.below(12);
+    chance::events(rng, state, count)
+}
+
+/// Numbers of lent records about N, none and the most.
+fn rooms(n: u8) -> Vec<u8> {
+    let mut rooms = vec![0, n - 1, n, n + 1, MOST_ROOM];
     rooms.dedup();
-    for room in rooms {
-        records.roll(state, room);
+    rooms
+}
+
+/// Fresh states, each roll after a list of its own that leaves workers, one
+/// in putname and, where N is above k, a queue.
+fn fresh_states(records: &mut Records, rng: &mut Random) {
+    for &setup in SETUPS.iter().chain(&CROWDED_SETUPS) {
+        let state = fresh(setup);
+        for room in rooms(state.n) {
+            records.roll(&state, &busy_list(rng, setup), room);
+        }
+    }
+    for setup in SETUPS {
+        let mut state = fresh(setup);
+        ends::fill_unused(&mut state, || rng.byte().max(1));
+        records.roll(&state, &busy_list(rng, setup), MOST_ROOM);
+    }
+    let state = fresh(CROWDED_SETUPS[0]);
+    let longest = chance::events(rng, &state, MOST_EVENTS);
+    records.roll(&state, &longest, state.n);
+}
+
+/// States in mid-run with short lists, one of them empty; the turn chooses
+/// which.
+fn mid_run_states(records: &mut Records, rng: &mut Random, state: &State, turn: usize) {
+    let rooms = rooms(state.n);
+    let empty = turn % rooms.len();
+    for (place, room) in rooms.into_iter().enumerate() {
+        let events = if place == empty {
+            Vec::new()
+        } else {
+            short_list(rng, state)
+        };
+        records.roll(state, &events, room);
     }
 }
 
-/// Unused places are neither checked nor shown.
+/// Unused places are neither checked, shown nor changed by a list.
 fn unused_places(records: &mut Records, rng: &mut Random, good: &State) {
     let mut state = good.clone();
     ends::fill_unused(&mut state, || rng.byte().max(1));
-    for room in [state.n, state.n + 1, MOST_ROOM] {
-        records.roll(&state, room);
-    }
+    records.roll(&state, &short_list(rng, &state), state.n);
+    records.roll(&state, &[], state.n + 1);
+    records.roll(&state, &short_list(rng, &state), MOST_ROOM);
 }
 
 /// Numbers at the ends of their ranges: the processes of every stage, the
-/// gate word and the queue.
+/// gate word and the queue. The list tries every kind on each process.
 fn range_ends(records: &mut Records) {
     let mut state = fresh([7, 4, 2, 2]);
     for stage in stage::REMAINDER..=stage::EXHAUSTED {
         state.processes[usize::from(stage)] = ends::last_places(&state, stage);
     }
-    records.roll(&state, state.n);
-    records.roll(&state, MOST_ROOM);
+    let kinds = [STEP, RELEASE, REQUEST];
+    let events: Vec<u8> = (0..state.n)
+        .flat_map(|process| kinds.map(|kind| [kind, process]).concat())
+        .collect();
+    records.roll(&state, &events, state.n);
+    records.roll(&state, &[], MOST_ROOM);
     let queued = ends::with_full_queue(&state);
-    records.roll(&queued, queued.n - 1);
-    records.roll(&queued, queued.n);
+    records.roll(&queued, &events, queued.n - 1);
+    records.roll(&queued, &events, queued.n);
 }
 
 /// One state of every kind of fault, each with enough room and with too
-/// little. The turn, 0 to 2, chooses the first, a middle or the last of
-/// each kind, and likewise of the processes.
+/// little, with a list that the good state accepts and with none. The turn,
+/// 0 to 2, chooses the first, a middle or the last of each kind, and
+/// likewise of the processes.
 fn broken_states(records: &mut Records, good: &State, turn: usize) {
     let process = turn * (usize::from(good.n) - 1) / 2;
     let kinds = broken::kinds(good, process);
@@ -76,28 +134,74 @@ fn broken_states(records: &mut Records, good: &State, turn: usize) {
         } else {
             [MOST_ROOM, 0]
         };
-        for room in rooms {
-            records.roll(state, room);
+        let pair = accepted_pair(good, index);
+        let lists = if (index / 2).is_multiple_of(2) {
+            [&pair[..], &[]]
+        } else {
+            [&[], &pair[..]]
+        };
+        for (events, room) in lists.into_iter().zip(rooms) {
+            records.roll(state, events, room);
         }
     }
 }
 
+/// A state whose process 0 is about to leave the gate and let the queue's
+/// only process in.
+fn leaving(setup: [u8; 4]) -> State {
+    let mut state = fresh(setup);
+    state.processes[0].stage = stage::PUTNAME;
+    state.gate = -1;
+    state.queue_len = 1;
+    state.queue[0] = state.n - 1;
+    state
+}
+
+/// States with a fault that the list beside them would mend if it were run:
+/// it is refused, and so is the roll.
+pub(crate) fn mendable() -> Vec<(State, Vec<u8>)> {
+    let setup = [7, 4, 2, 2];
+    let [mut node, mut segment, mut name] = [fresh(setup), fresh(setup), fresh(setup)];
+    node.processes[3].node = 0;
+    segment.processes[3].segment = segment.g;
+    name.processes[3].name = name.names();
+    let [mut gate, mut counter] = [fresh(setup), fresh(setup)];
+    gate.gate += 1;
+    counter.counters[1] += 1;
+    let [mut low_gate, mut head] = [leaving(setup), leaving(setup)];
+    low_gate.gate = -65;
+    head.queue[0] = head.n;
+    vec![
+        (node, vec![REQUEST, 3]),
+        (segment, vec![REQUEST, 3]),
+        (name, vec![REQUEST, 3]),
+        (gate, vec![REQUEST, 0, STEP, 0]),
+        (counter, vec![REQUEST, 0, STEP, 0, STEP, 0]),
+        (low_gate, vec![STEP, 0]),
+        (head, vec![STEP, 0]),
+    ]
+}
+
 /// The records that come first.
 pub fn fixed(records: &mut Records, rng: &mut Random) {
+    fresh_states(records, rng);
     let main = SETUPS.map(|setup| mid_run(rng, setup));
     let more = MORE_SETUPS.map(|setup| mid_run(rng, setup));
     let lone = LONE_SETUPS.map(lone_worker);
-    for state in main.iter().chain(&more).chain(&lone) {
-        lengths(records, state);
+    for (turn, state) in main.iter().chain(&more).chain(&lone).enumerate() {
+        mid_run_states(records, rng, state, turn);
     }
     for state in main.iter().chain(&lone) {
         unused_places(records, rng, state);
     }
     range_ends(records);
-    records.roll(&State::BLANK, 0);
-    records.roll(&State::BLANK, 5);
+    records.roll(&State::BLANK, &[], 0);
+    records.roll(&State::BLANK, &[REQUEST, 0, STEP, 0], 5);
     for (turn, state) in main.iter().enumerate() {
         broken_states(records, state, turn);
+    }
+    for (state, events) in mendable() {
+        records.roll(&state, &events, state.n);
     }
 }
 
@@ -113,11 +217,37 @@ fn room(rng: &mut Random, n: u8) -> u8 {
     }
 }
 
-fn add_random(records: &mut Records, rng: &mut Random) {
+/// A fresh state with a lively list of any length.
+fn add_fresh(records: &mut Records, rng: &mut Random) {
+    let setup = setup(rng);
+    let count = 20 + rng.below(MOST_EVENTS - 19);
+    let turn = rng.below(5);
+    let mut events = lively_list(rng, turn, setup, count);
+    events.truncate(2 * MOST_EVENTS);
+    let room = room(rng, setup[0]);
+    records.roll(&fresh(setup), &events, room);
+}
+
+/// A state of any kind, perhaps broken; its list is mostly short.
+fn add_any(records: &mut Records, rng: &mut Random) {
     let good = chance::state(rng);
+    let count = match rng.below(8) {
+        0 => 0,
+        1 => rng.below(MOST_EVENTS + 1),
+        _ => rng.below(25),
+    };
+    let events = chance::events(rng, &good, count);
     let state = chance::perhaps_broken(rng, &good);
     let room = room(rng, good.n);
-    records.roll(&state, room);
+    records.roll(&state, &events, room);
+}
+
+fn add_random(records: &mut Records, rng: &mut Random) {
+    if rng.chance(1, 3) {
+        add_fresh(records, rng);
+    } else {
+        add_any(records, rng);
+    }
 }
 
 /// The first `count` records of a seed.

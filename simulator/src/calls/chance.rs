@@ -103,11 +103,10 @@ fn event(rng: &mut Random, state: &State) -> [u8; 2] {
     }
 }
 
-/// Events for a list; half of them are about one process.
-fn list(rng: &mut Random, state: &State) -> Vec<u8> {
+/// That many events for a list; half of them are about one process.
+pub(crate) fn events(rng: &mut Random, state: &State, count: usize) -> Vec<u8> {
     let mut after = state.clone();
     let mut events = Vec::new();
-    let count = rng.below(13);
     let mut last = rng.byte_below(state.n);
     for _ in 0..count {
         let [kind, process] = if rng.chance(1, 2) {
@@ -121,6 +120,13 @@ fn list(rng: &mut Random, state: &State) -> Vec<u8> {
             last = process;
         }
     }
+    events
+}
+
+/// A short list, now and then of odd length.
+fn list(rng: &mut Random, state: &State) -> Vec<u8> {
+    let count = rng.below(13);
+    let mut events = events(rng, state, count);
     if rng.chance(1, 24) {
         events.push(rng.byte());
     }

@@ -78,16 +78,20 @@ impl Records {
         self.add(state, &[2], &line);
     }
 
-    /// The roll with `room` lent records. The call has no number, since a
-    /// file of rolls holds nothing else.
-    pub fn roll(&mut self, state: &State, room: u8) {
+    /// The roll, with `room` lent records, of the state that the list gives
+    /// back; the list has an even number of bytes, at most 254, and as much
+    /// journal as it needs. The call has no number, since a file of rolls
+    /// holds nothing else.
+    pub fn roll(&mut self, state: &State, events: &[u8], room: u8) {
+        let mut after = state.clone();
+        after.run(events, &mut vec![UNTOUCHED; 2 * events.len()]);
         let untouched = Status {
             stage: UNTOUCHED,
             name: UNTOUCHED,
             steps: UNTOUCHED,
         };
         let mut lent = vec![untouched; usize::from(room)];
-        let answer = state.fill_roll(&mut lent);
+        let answer = after.fill_roll(&mut lent);
         let mut line = format!("roll {answer}");
         for record in lent {
             line.push_str(&format!(
@@ -95,7 +99,8 @@ impl Records {
                 record.stage, record.name, record.steps
             ));
         }
-        self.add(state, &[room], &line);
+        let call = [&[events.len() as u8], events, &[room]].concat();
+        self.add(state, &call, &line);
     }
 
     /// Writes both files into the folder.

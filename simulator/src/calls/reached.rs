@@ -1,4 +1,5 @@
-//! States reached in mid-run, and events that they accept.
+//! States reached in mid-run, lists that reach them, and events that they
+//! accept.
 
 use crate::answer::ACCEPTED;
 use crate::cases::schedule::{natural_kind, ListMaker, Plan, Schedule};
@@ -20,7 +21,7 @@ fn any_in(state: &State, stage: u8) -> bool {
 }
 
 /// Workers, one in putname and, where N is above k, a queue of two.
-fn busy(state: &State) -> bool {
+pub(crate) fn busy(state: &State) -> bool {
     let crowded = state.n >= state.names() + 2;
     any_in(state, stage::WORKING)
         && any_in(state, stage::PUTNAME)
@@ -43,6 +44,31 @@ pub fn mid_run(rng: &mut Random, setup: [u8; 4]) -> State {
         maker.lively(1);
     }
     maker.state
+}
+
+/// A list of 20 to 120 events, some of them refused, that leaves the fresh
+/// state of the setup a busy one. A dozen processes take part, so k must be
+/// at most 10 where N is above it; other setups may never be busy.
+pub(crate) fn busy_list(rng: &mut Random, setup: [u8; 4]) -> Vec<u8> {
+    let mut events = Vec::new();
+    for _ in 0..1000 {
+        let plan = Plan {
+            schedule: Schedule::Uniform,
+            pool: 12,
+            noise: 4,
+        };
+        let mut maker = ListMaker::new(rng, setup, plan);
+        let least = 20 + maker.rng.below(81);
+        maker.lively(least);
+        while !busy(&maker.state) && maker.events.len() < 2 * 120 {
+            maker.lively(1);
+        }
+        events = maker.events;
+        if busy(&maker.state) {
+            break;
+        }
+    }
+    events
 }
 
 /// An event that the state accepts, looked for from process `start` on.

@@ -79,17 +79,21 @@ fn any_state_in_range() {
 
 #[test]
 fn lines_of_a_roll() {
-    let mut records = Records::new(3);
-    records.roll(&three(), 4);
-    records.roll(&three(), 1);
-    records.roll(&State::BLANK, 0);
-    records.roll(&three(), 3);
+    let mut records = Records::new(4);
+    records.roll(&three(), &[], 4);
+    records.roll(&three(), &[2, 0, 3, 0, 1, 0, 1, 0, 1, 1, 0, 3], 3);
+    records.roll(&three(), &[0, 2], 1);
+    records.roll(&State::BLANK, &[0, 0], 0);
+    records.roll(&three(), &[], 3);
     let expected = "roll 0 4 0 1 2 255 0 0 255 0 170 170 170\n\
+                    roll 0 0 255 1 3 255 0 0 255 0\n\
                     roll 13 170 170 170\nroll 15\n";
     assert_eq!(records.output, expected);
-    assert_eq!(records.input.len(), 3 * 471);
+    assert_eq!(records.input.len(), 4 * 472 + 12 + 2 + 2);
     assert_eq!(records.input[..470], three().to_image());
-    assert_eq!(records.input[470], 4);
+    assert_eq!(records.input[470..472], [0, 4]);
+    assert_eq!(records.input[942..947], [12, 2, 0, 3, 0]);
+    assert_eq!(records.input[955], 3);
 }
 
 #[test]
@@ -101,19 +105,103 @@ fn every_kind_breaks_in_the_main_setups() {
     }
 }
 
+/// Every list of `mendable` mends its state when the state is not checked.
+#[test]
+fn mendable_states_are_refused() {
+    for (state, events) in rolls::mendable() {
+        let mut after = state.clone();
+        assert!(!after.in_range());
+        for event in events.chunks(2) {
+            assert_eq!(after.apply(event[0], event[1]), 0);
+        }
+        assert!(after.in_range());
+        after = state.clone();
+        assert_eq!(after.run(&events, &mut [0; 12]), 15);
+        assert_eq!(after, state);
+        refused(&after, 7, 15);
+    }
+}
+
+#[test]
+fn busy_lists() {
+    let crowded = [[14, 4, 1, 2], [64, 1, 2, 1]];
+    for seed in 0..20 {
+        let mut rng = Random::new(seed);
+        for &setup in reached::SETUPS.iter().chain(&crowded) {
+            let events = reached::busy_list(&mut rng, setup);
+            assert!((20..=120).contains(&(events.len() / 2)));
+            let mut state = fresh(setup);
+            state.run(&events, &mut vec![0; 2 * events.len()]);
+            assert!(reached::busy(&state));
+        }
+    }
+}
+
+/// The state, the events and the number of lent records of each record.
+fn read(mut input: &[u8]) -> Vec<(State, Vec<u8>, usize)> {
+    let mut read = Vec::new();
+    while let Some((image, rest)) = input.split_first_chunk() {
+        let (events, rest) = rest[1..].split_at(usize::from(rest[0]));
+        read.push((
+            State::from_image(image),
+            events.to_vec(),
+            usize::from(rest[0]),
+        ));
+        input = &rest[1..];
+    }
+    assert!(input.is_empty());
+    read
+}
+
+/// The records read back and played event by event give the same lines.
+#[test]
+fn records_play_back() {
+    let records = rolls::all(3, 400);
+    let read = read(&records.input);
+    assert_eq!(read.len(), 400);
+    for ((mut state, events, room), line) in read.into_iter().zip(records.output.lines()) {
+        assert!(events.len() <= 254 && events.len().is_multiple_of(2) && room <= 80);
+        for event in events.chunks(2) {
+            state.event(event[0], event[1]);
+        }
+        let mut lent = vec![UNTOUCHED; room];
+        let mut expected = format!("roll {}", state.fill_roll(&mut lent));
+        for Status { stage, name, steps } in lent {
+            expected.push_str(&format!(" {stage} {name} {steps}"));
+        }
+        assert_eq!(line, expected);
+    }
+}
+
+/// Lists of no event and of the most, and broken states with and without.
+#[test]
+fn lists_of_all_lengths() {
+    let read = read(&rolls::all(5, 180).input);
+    let number = |good: bool, bytes: std::ops::RangeInclusive<usize>| {
+        read.iter()
+            .filter(|(state, events, _)| state.in_range() == good && bytes.contains(&events.len()))
+            .count()
+    };
+    assert!(number(true, 0..=0) >= 13);
+    assert!(number(true, 2..=24) >= 30);
+    assert!(number(true, 40..=240) >= 28);
+    assert!(number(true, 254..=254) >= 1);
+    assert!(number(false, 0..=0) >= 46);
+    assert!(number(false, 2..=254) >= 53);
+}
+
 #[test]
 fn batches_of_rolls() {
     for seed in 0..20 {
         let mut records = Records::new(usize::MAX);
         rolls::fixed(&mut records, &mut Random::new(seed));
-        assert_eq!(records.count, 144);
+        assert_eq!(records.count, 180);
     }
     let first = rolls::all(7, 200);
     let second = rolls::all(7, 200);
     assert!(first.input == second.input && first.output == second.output);
-    assert_eq!(first.input.len(), 200 * 471);
+    assert!(first.input.len() < 130_000);
     assert_eq!(first.output.lines().count(), 200);
-    assert!(first.input.chunks(471).all(|record| record[470] <= 80));
     assert!(first.input.starts_with(&rolls::all(7, 9).input));
     assert_eq!(rolls::all(7, 9).count, 9);
 }
