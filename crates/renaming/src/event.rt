@@ -7,8 +7,7 @@ ghost use mathlib.Core.Path.{_≡_};
 ghost use Rattle.machine.specs.Event;
 
 // Kind 0 requests, 1 steps, 2 releases. 15 for the state, 12 for the kind, 6 for the process, then what the event answers.
-#[no_mangle]
-pub extern "C" fn event(state: State, kind: u8, process: u8) -> Done
+pub fn event(state: State, kind: u8, process: u8) -> Done
     ensures { λ r. ⌜ r ≡ Event.event state kind process ⌝ }
 {
     if !range::in_range(state) {
@@ -26,22 +25,19 @@ pub extern "C" fn event(state: State, kind: u8, process: u8) -> Done
     }
 }
 
-#[no_mangle]
-pub extern "C" fn request(state: State, process: u8) -> Done
+pub fn request(state: State, process: u8) -> Done
     ensures { λ r. ⌜ r ≡ Event.event state 0 process ⌝ }
 {
     event(state, 0, process)
 }
 
-#[no_mangle]
-pub extern "C" fn step(state: State, process: u8) -> Done
+pub fn step(state: State, process: u8) -> Done
     ensures { λ r. ⌜ r ≡ Event.event state 1 process ⌝ }
 {
     event(state, 1, process)
 }
 
-#[no_mangle]
-pub extern "C" fn release(state: State, process: u8) -> Done
+pub fn release(state: State, process: u8) -> Done
     ensures { λ r. ⌜ r ≡ Event.event state 2 process ⌝ }
 {
     event(state, 2, process)

@@ -7,8 +7,7 @@ ghost use mathlib.Core.Path.{_≡_};
 ghost use Rattle.machine.specs.Lists;
 
 // 14 for an odd list, 13 for a journal that is too short, 15 for the state; otherwise 0, and every event has its entry.
-#[no_mangle]
-pub extern "C" fn run(state: State, events: &[u8], journal: &mut [u8]) -> Done
+pub fn run(state: State, events: &[u8], journal: &mut [u8]) -> Done
     ensures { λ r. ⌜ (r ≡ Lists.run state (now (events .entry)) (now (journal .entry))) × (now (journal .exit) ≡ Lists.runJournal state (now (events .entry)) (now (journal .entry))) ⌝ }
 {
     if events.len() % 2 != 0 {

@@ -24,8 +24,7 @@ fn negated(a: i8) -> i8
 }
 
 // Names still free at the gate, and processes queued there; 15 for the state, with figures 0.
-#[no_mangle]
-pub extern "C" fn gate_report(state: State) -> Report
+pub fn gate_report(state: State) -> Report
     ensures { λ r. ⌜ r ≡ gateReport state ⌝ }
 {
     if !range::in_range(state) {

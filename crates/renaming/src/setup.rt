@@ -6,8 +6,7 @@ ghost use mathlib.Core.Path.{_≡_};
 ghost use Rattle.machine.specs.State;
 
 // The fresh state; or 1 to 5, the first number that fails, with the blank state.
-#[no_mangle]
-pub extern "C" fn setup(n: u8, l: u8, g: u8, b: u8) -> Done
+pub fn setup(n: u8, l: u8, g: u8, b: u8) -> Done
     ensures { λ r. ⌜ r ≡ State.setup n l g b ⌝ }
 {
     let a = limits::setup_answer(n, l, g, b);

@@ -7,8 +7,7 @@ ghost use Rattle.machine.specs.Reports.{statusAnswer, statusList};
 
 // Fills a lent list with a record for each process in rising order. The records from N on are untouched, and a refused call
 // writes nothing.
-#[no_mangle]
-pub extern "C" fn fill_status(state: State, records: &mut [Status]) -> u8
+pub fn fill_status(state: State, records: &mut [Status]) -> u8
     ensures { λ r. ⌜ (r ≡ statusAnswer state (now (records .entry)))
         × (now (records .exit) ≡ statusList state (now (records .entry))) ⌝ }
 {

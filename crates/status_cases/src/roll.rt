@@ -81,7 +81,7 @@ fn print_list(state: State, count: usize) -> bool
 
 // Reads a record, runs its list, fills the status list and prints its line. False where the input ends, within a record too, and where
 // more is to be lent than there is.
-pub fn next() -> bool {
+pub(crate) fn next() -> bool {
     let mut image = [0u8; 470];
     if io::read_full(0, &mut image) < 470 {
         return false;

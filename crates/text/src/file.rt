@@ -25,8 +25,7 @@ fn run_file(file: &[u8], journal: &mut [u8]) -> usize
 
 // A line for each event, or `refused n` for a file that is refused; 13 when the buffer is shorter than the text. The last line of the
 // contract follows from the first, and lets a caller take the text as a part of the buffer.
-#[no_mangle]
-pub extern "C" fn file_text(file: &[u8], out: &mut [u8]) -> Text
+pub fn file_text(file: &[u8], out: &mut [u8]) -> Text
     ensures { λ r. ⌜ (r ≡ given (fileText (now (file .entry))) (now (out .entry))) × (now (out .exit) ≡ lentAfter (fileText (now (file .entry))) (now (out .entry))) ⌝ }
     ensures { λ r. ⌜ (r .size ≤ length (now (out .exit))) × (r .size ≡ length (take (r .size) (now (out .exit)))) ⌝ }
 {

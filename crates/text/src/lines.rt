@@ -64,8 +64,7 @@ fn put_lines(out: &mut [u8], journal: &[u8]) -> usize
 }
 
 // The text of a journal; 13 when the buffer is shorter than the text.
-#[no_mangle]
-pub extern "C" fn journal_text(journal: &[u8], out: &mut [u8]) -> Text
+pub fn journal_text(journal: &[u8], out: &mut [u8]) -> Text
     ensures { λ r. ⌜ (r ≡ given (lines (now (journal .entry))) (now (out .entry))) × (now (out .exit) ≡ lentAfter (lines (now (journal .entry))) (now (out .entry))) ⌝ }
 {
     if !fits(journal, out.len()) {

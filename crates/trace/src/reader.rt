@@ -8,8 +8,7 @@ ghost use mathlib.Core.Path.{_≡_};
 ghost use Rattle.trace.specs.Layout.{fileAnswer, readSetup, readEvents};
 
 // 0, or the number of the refusal: 10, 11, then 1 to 5.
-#[no_mangle]
-pub extern "C" fn file_answer(file: &[u8]) -> u8
+pub fn file_answer(file: &[u8]) -> u8
     ensures { λ r. ⌜ r ≡ fileAnswer (now (file .entry)) ⌝ }
 {
     let a = layout::layout_answer(file);
@@ -20,8 +19,7 @@ pub extern "C" fn file_answer(file: &[u8]) -> u8
 }
 
 // The fresh state of the file's setup; or the number of the refusal, with the blank state.
-#[no_mangle]
-pub extern "C" fn read_setup(file: &[u8]) -> Done
+pub fn read_setup(file: &[u8]) -> Done
     ensures { λ r. ⌜ r ≡ readSetup (now (file .entry)) ⌝ }
 {
     let a = layout::layout_answer(file);

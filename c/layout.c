@@ -1,0 +1,122 @@
+/* Checks that the header's sizes and offsets are the archive's: sizes by what a call writes and leaves, offsets by values that each
+ * call is known to put into each field. */
+#include <stdio.h>
+#include <string.h>
+#include "zevgorim.h"
+
+_Static_assert(sizeof(zevgorim_process) == 5, "process");
+_Static_assert(sizeof(zevgorim_state) == 470, "state");
+_Static_assert(offsetof(zevgorim_state, gate) == 4 && offsetof(zevgorim_state, queued) == 5, "gate");
+_Static_assert(offsetof(zevgorim_state, queue) == 6 && offsetof(zevgorim_state, counters) == 70, "queue, counters");
+_Static_assert(offsetof(zevgorim_state, words) == 86 && offsetof(zevgorim_state, process) == 150, "words, processes");
+_Static_assert(sizeof(zevgorim_done) == 471 && offsetof(zevgorim_done, state) == 1, "done");
+_Static_assert(sizeof(zevgorim_report) == 3 && sizeof(zevgorim_status) == 3, "report, status");
+_Static_assert(sizeof(zevgorim_text) == 16 && offsetof(zevgorim_text, size) == 8, "text");
+_Static_assert(sizeof(zevgorim_part) == 16 && offsetof(zevgorim_part, size) == 8, "part");
+
+static int wrong;
+
+static void is(const char *what, long got, long expected) {
+    if (got != expected) {
+        printf("%s is %ld, expected %ld\n", what, got, expected);
+        wrong = 1;
+    }
+}
+
+/* the state after so many events, which all must be accepted */
+static zevgorim_state run(zevgorim_state state, const uint8_t *events, size_t size) {
+    uint8_t journal[256];
+    zevgorim_done done = zevgorim_run(state, events, size, journal, sizeof journal);
+    is("answer of a list", done.answer, 0);
+    for (size_t i = 0; i < size / 2; i++) is("answer of an event", journal[4 * i], 0);
+    return done.state;
+}
+
+static void check_fresh(void) {
+    zevgorim_state s = zevgorim_setup(5, 2, 3, 4).state;
+    is("processes", s.processes, 5);
+    is("leaves", s.leaves, 2);
+    is("segments", s.segments, 3);
+    is("bits", s.bits, 4);
+    is("gate", s.gate, 24);
+    is("counter 1", s.counters[1], 12);
+    is("node of the last process", s.process[4].node, 1);
+    is("name of the last process", s.process[4].name, ZEVGORIM_NO_NAME);
+    is("node past the last process", s.process[5].node, 0);
+}
+
+/* two processes on one name, two segments of one bit: 0 takes name 0, 1 takes name 1 in its second segment, 2 and 3 queue */
+static void check_run(void) {
+    static const uint8_t events[] = {0, 0, 1, 0, 1, 0, 0, 1, 1, 1, 1, 1, 1, 1, 0, 3, 1, 3, 0, 2, 1, 2};
+    zevgorim_state s = run(zevgorim_setup(4, 1, 2, 1).state, events, sizeof events);
+    is("gate", s.gate, -2);
+    is("queued", s.queued, 2);
+    is("head of the queue", s.queue[0], 3);
+    is("end of the queue", s.queue[1], 2);
+    is("word 0", s.words[0], 1);
+    is("word 1", s.words[1], 1);
+    is("stage of 1", s.process[1].stage, ZEVGORIM_WORKING);
+    is("segment of 1", s.process[1].segment, 1);
+    is("name of 1", s.process[1].name, 1);
+    is("steps of 1", s.process[1].steps, 2);
+
+    zevgorim_report report = zevgorim_gate_report(s);
+    is("answer of the report", report.answer, 0);
+    is("free", report.free, 0);
+    is("queued of the report", report.queued, 2);
+
+    zevgorim_status roll[5];
+    memset(roll, 170, sizeof roll);
+    is("answer of the roll", zevgorim_fill_status(s, roll, 5), 0);
+    is("stage of the roll", roll[1].stage, ZEVGORIM_WORKING);
+    is("name of the roll", roll[1].name, 1);
+    is("steps of the roll", roll[1].steps, 2);
+    is("record past N", roll[4].stage + roll[4].name + roll[4].steps, 3 * 170);
+    is("answer of a short roll", zevgorim_fill_status(s, roll, 3), ZEVGORIM_SHORT);
+}
+
+/* what a call gives by value lies within what the header says it takes */
+static void check_edges(void) {
+    struct {
+        uint8_t before[64];
+        zevgorim_done done;
+        uint8_t after[64];
+    } around;
+    memset(&around, 170, sizeof around);
+    around.done = zevgorim_setup(64, 16, 2, 2);
+    for (int i = 0; i < 64; i++) is("byte around the result", around.before[i] + around.after[i], 2 * 170);
+    zevgorim_state garbage;
+    memset(&garbage, 170, sizeof garbage);
+    zevgorim_done back = zevgorim_event(garbage, 1, 0);
+    is("answer to garbage", back.answer, ZEVGORIM_BROKEN_STATE);
+    is("garbage given back", memcmp(&back.state, &garbage, sizeof garbage), 0);
+}
+
+/* the worked file of document 01 */
+static void check_file(void) {
+    static const uint8_t file[] = {'T', 'U', 'R', 'N', 2, 1, 23, 0, 0, 0, 4, 0, 0, 0, 2, 27, 0, 0, 0, 4, 0, 0, 0, 2, 1, 1, 1, 0, 0, 1, 0};
+    static const char text[] = "0 1 - 0\n0 3 - 0\n";
+    uint8_t out[32];
+    memset(out, 170, sizeof out);
+    zevgorim_part part = zevgorim_read_events(file, sizeof file);
+    is("offset", (long)part.offset, 27);
+    is("size", (long)part.size, 4);
+    is("setup of the file", zevgorim_read_setup(file, sizeof file).state.processes, 2);
+    zevgorim_text made = zevgorim_file_text(file, sizeof file, out, sizeof out);
+    is("answer of the text", made.answer, 0);
+    is("size of the text", (long)made.size, (long)strlen(text));
+    is("text", memcmp(out, text, strlen(text)), 0);
+    is("byte past the text", out[strlen(text)], 170);
+    is("answer of a short buffer", zevgorim_file_text(file, sizeof file, out, strlen(text) - 1).answer, ZEVGORIM_SHORT);
+    static const uint8_t journal[] = {15, 255, 255, 255};
+    is("size of a line", (long)zevgorim_journal_text(journal, 4, out, sizeof out).size, 9);
+}
+
+int main(void) {
+    check_fresh();
+    check_run();
+    check_edges();
+    check_file();
+    puts(wrong ? "the header does not fit the archive" : "the header fits the archive");
+    return wrong;
+}
