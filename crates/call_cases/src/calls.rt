@@ -23,10 +23,9 @@ fn put_done(text: &mut [u8; 6000], word: &[u8], done: Done) -> usize
     ensures { λ r. ⌜ r ≤ 52 ⌝ }
 {
     let state = done.state;
-    let image = image::image_of(state);
     let a = line::put_text(text, 0, word);
     let b = line::put_byte(text, a, done.answer);
-    line::put_figure(text, b, image::digest(&image))
+    line::put_figure(text, b, image::digest(state))
 }
 
 // An event.

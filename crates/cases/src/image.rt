@@ -1,12 +1,18 @@
-// The image of a state: 470 bytes, one for each number, in the order of the state's fields. The queue begins at byte 6, the
-// counters at 70, the words at 86, and the processes at 150, five bytes each.
+// A state from 470 bytes, one for each number in the order of its fields, and the figure that shows a state on a line.
 use machine::Process;
 use machine::State;
+ghost use mathlib.Core.Path.{_≡_};
 ghost use Prim.Native.Nat.{_+_, _<_, _≤_};
 ghost use lib.ListN.{length};
+ghost use mir.Syntax.{w8};
+ghost use mir.Val.{toZ, ofZ};
+ghost use Rattle.cases.specs.Image.{bytesFrom, processOf, stateOf, processBytes, processesBytes, mixed, digestFrom, digestOf};
+ghost use Rattle.machine.specs.Below.{tabulate};
 
 // The number whose two's complement is x.
-fn signed(x: u8) -> i8 {
+fn signed(x: u8) -> i8
+    ensures { λ r. ⌜ r ≡ toZ w8 x ⌝ }
+{
     if x < 128 {
         return x as i8;
     }
@@ -14,7 +20,9 @@ fn signed(x: u8) -> i8 {
 }
 
 // The two's complement of a.
-fn unsigned(a: i8) -> u8 {
+fn unsigned(a: i8) -> u8
+    ensures { λ r. ⌜ r ≡ ofZ w8 a ⌝ }
+{
     if a >= 0 {
         return a as u8;
     }
@@ -24,6 +32,7 @@ fn unsigned(a: i8) -> u8 {
 // Fills bytes with the image's from a place on.
 fn load(image: &[u8; 470], at: usize, bytes: &mut [u8])
     requires { ⌜ at + length (now bytes) ≤ 470 ⌝ }
+    ensures { λ r. ⌜ now (bytes .exit) ≡ bytesFrom (now (image .entry)) at (length (now (bytes .entry))) ⌝ }
 {
     let mut i = 0;
     while i < bytes.len() {
@@ -32,20 +41,10 @@ fn load(image: &[u8; 470], at: usize, bytes: &mut [u8])
     }
 }
 
-// Stores bytes into the image from a place on.
-fn store(image: &mut [u8; 470], at: usize, bytes: &[u8])
-    requires { ⌜ at + length (now bytes) ≤ 470 ⌝ }
-{
-    let mut i = 0;
-    while i < bytes.len() {
-        image[at + i] = bytes[i];
-        i += 1;
-    }
-}
-
 // Process p of the image.
 fn load_process(image: &[u8; 470], p: usize) -> Process
     requires { ⌜ p < 64 ⌝ }
+    ensures { λ r. ⌜ r ≡ processOf (now (image .entry)) p ⌝ }
 {
     let at = 150 + 5 * p;
     Process {
@@ -57,22 +56,12 @@ fn load_process(image: &[u8; 470], p: usize) -> Process
     }
 }
 
-// Stores process p into the image.
-fn store_process(image: &mut [u8; 470], p: usize, process: Process)
-    requires { ⌜ p < 64 ⌝ }
-{
-    let at = 150 + 5 * p;
-    image[at] = process.stage;
-    image[at + 1] = process.node;
-    image[at + 2] = process.segment;
-    image[at + 3] = process.name;
-    image[at + 4] = process.steps;
-}
-
 // The image's processes.
-fn load_processes(image: &[u8; 470]) -> [Process; 64] {
+fn load_processes(image: &[u8; 470]) -> [Process; 64]
+    ensures { λ r. ⌜ r ≡ tabulate 64 (processOf (now (image .entry))) ⌝ }
+{
     let mut process = [load_process(image, 0); 64];
-    let mut p = 1;
+    let mut p = 0;
     while p < 64 {
         process[p] = load_process(image, p);
         p += 1;
@@ -80,18 +69,10 @@ fn load_processes(image: &[u8; 470]) -> [Process; 64] {
     process
 }
 
-// Stores a state's processes into the image.
-fn store_processes(image: &mut [u8; 470], state: State) {
-    let mut p = 0;
-    while p < 64 {
-        let process = state.process[p];
-        store_process(image, p, process);
-        p += 1;
-    }
-}
-
 // The state of an image.
-pub fn state_of(image: &[u8; 470]) -> State {
+pub fn state_of(image: &[u8; 470]) -> State
+    ensures { λ r. ⌜ r ≡ stateOf (now (image .entry)) ⌝ }
+{
     let mut queue = [0u8; 64];
     let mut counters = [0u8; 16];
     let mut words = [0u8; 64];
@@ -113,39 +94,70 @@ pub fn state_of(image: &[u8; 470]) -> State {
     }
 }
 
-// The image of a state.
-pub fn image_of(state: State) -> [u8; 470] {
-    let mut image = [0u8; 470];
-    image[0] = state.processes;
-    image[1] = state.leaves;
-    image[2] = state.segments;
-    image[3] = state.bits;
-    image[4] = unsigned(state.gate);
-    image[5] = state.queued;
+// One byte more in the figure.
+fn mix(d: u64, x: u8) -> u64
+    requires { ⌜ d < 65521 ⌝ }
+    ensures { λ r. ⌜ (r ≡ mixed d x) × (r < 65521) ⌝ }
+{
+    (31 * d + x as u64) % 65521
+}
+
+// All bytes of a slice more.
+fn mix_bytes(d: u64, bytes: &[u8]) -> u64
+    requires { ⌜ d < 65521 ⌝ }
+    ensures { λ r. ⌜ (r ≡ digestFrom d (now (bytes .entry))) × (r < 65521) ⌝ }
+{
+    let mut all = d;
+    let mut i = 0;
+    while i < bytes.len() {
+        all = mix(all, bytes[i]);
+        i += 1;
+    }
+    all
+}
+
+// A process more.
+fn mix_process(d: u64, h: Process) -> u64
+    requires { ⌜ d < 65521 ⌝ }
+    ensures { λ r. ⌜ (r ≡ digestFrom d (processBytes h)) × (r < 65521) ⌝ }
+{
+    let bytes = [h.stage, h.node, h.segment, h.name, h.steps];
+    mix_bytes(d, &bytes)
+}
+
+// All processes of a state more.
+fn mix_processes(d: u64, state: State) -> u64
+    requires { ⌜ d < 65521 ⌝ }
+    ensures { λ r. ⌜ (r ≡ digestFrom d (processesBytes (state .process))) × (r < 65521) ⌝ }
+{
+    let mut all = d;
+    let mut p = 0;
+    while p < 64 {
+        let h = state.process[p];
+        all = mix_process(all, h);
+        p += 1;
+    }
+    all
+}
+
+// The figure for a state.
+pub fn digest(state: State) -> u64
+    ensures { λ r. ⌜ r ≡ digestOf state ⌝ }
+{
+    let first = [
+        state.processes,
+        state.leaves,
+        state.segments,
+        state.bits,
+        unsigned(state.gate),
+        state.queued,
+    ];
     let queue = state.queue;
     let counters = state.counters;
     let words = state.words;
-    store(&mut image, 6, &queue);
-    store(&mut image, 70, &counters);
-    store(&mut image, 86, &words);
-    store_processes(&mut image, state);
-    image
-}
-
-// A byte as a wider number.
-fn wide(x: u8) -> u64
-    ensures { λ r. ⌜ r ≤ 255 ⌝ }
-{
-    x as u64
-}
-
-// A figure for an image: each byte is added to 31 times the figure before it, modulo 65521.
-pub fn digest(image: &[u8; 470]) -> u64 {
-    let mut d: u64 = 0;
-    let mut i = 0;
-    while i < 470 {
-        d = (31 * d + wide(image[i])) % 65521;
-        i += 1;
-    }
-    d
+    let a = mix_bytes(0, &first);
+    let b = mix_bytes(a, &queue);
+    let c = mix_bytes(b, &counters);
+    let d = mix_bytes(c, &words);
+    mix_processes(d, state)
 }

@@ -1,5 +1,6 @@
 -- An array filled from its start by a loop is a tabulated list at every turn, since lists of one length that agree at each place
 -- are equal, and a store at the next place moves the boundary by one.
+--     by-place         a list of one length, with the function's value at each place, is the tabulated one
 --     filled           the function below the boundary i, one value d from there on
 --     filled-start     an array of d is filled as far as the function is d
 --     filled-next      the function's value stored at the boundary
@@ -18,8 +19,7 @@ use lib.Seq.{ext-getD, getD-set-same, getD-set-other}
 use Rattle.machine.specs.Below.{tabulate}
 use Rattle.machine.proofs.Facts.Below.{length-tabulate, getD-tabulate, getD-constant}
 
--- equal to a tabulated list, by length and place
-by-place : {A : Type 0} (n : ℕ) (f : ℕ → A) (d : A) (xs : List A) → length xs ≡ n → ((j : ℕ) → j < n → getD xs j d ≡ f j) → xs ≡ tabulate n f
+pub by-place : {A : Type 0} (n : ℕ) (f : ℕ → A) (d : A) (xs : List A) → length xs ≡ n → ((j : ℕ) → j < n → getD xs j d ≡ f j) → xs ≡ tabulate n f
 by-place n f d xs e h =
     ext-getD d xs (tabulate n f) (e ∙ sym (length-tabulate n f))
     (λ j l. let k : j < n = subst (λ (m : ℕ). j < m) e l in h j k ∙ sym (getD-tabulate n f j d k))

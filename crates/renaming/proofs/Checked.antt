@@ -1,11 +1,9 @@
 -- A state that the runner holds: its arrays of their lengths and its numbers in range. Every event keeps it so, by the machine's laws.
 -- Assumes nothing.
-use mathlib.Core.Path.{_≡_, sym, _∙_}
+use mathlib.Core.Path.{_≡_}
 use mathlib.Core.Bool.{true}
-use mathlib.Core.List.{List, map}
 use Prim.Native.Nat.{ℕ, _<_}
 use native.Mathlib.Decide.{ℕ-discrete}
-use lib.ListN.{length, length-map}
 use Rattle.machine.specs.Event.{event}
 use Rattle.machine.specs.Range.{inRange}
 use Rattle.machine.specs.State.{processAt}
@@ -20,10 +18,6 @@ use Rattle.ranges.proofs.Accepted.{leaves-16}
 pub record Checked (s : State) : Type 0 where
   pub sized : Sized s
   pub ranges : Ranges s
-
--- the length of an array of records, as the code knows it
-pub length-mapped : (X Y : Type 0) (f : X → Y) (l : List X) (n : ℕ) → length (map f l) ≡ n → length l ≡ n
-length-mapped X Y f l n e = sym (length-map l f) ∙ e
 
 module _ {s : State} (c : Checked s) where
   pub limits : Limits (s .processes) (s .leaves) (s .segments) (s .bits)

@@ -1,54 +1,60 @@
--- `digest` is safe and ends: the figure is a remainder, so that the next product fits. Assumes nothing.
-use Prim.Native.Nat.{_≤_, _-_, _<_}
+-- `digest` meets its contract: the parts of the state, mixed one after the other, are its image mixed. Assumes nothing.
+use mir.Facts.{toZ-ofZ}
+use mir.Syntax.{w8}
+use Rattle.cases.specs.Image.{imageOf}
+use Rattle.cases.proofs.Digests.{digest-append}
 use borrow.Author.Needs.{needs}
 use Rattle.cases.proofs.image.digest.Statement.{statement}
 use Rattle.cases.proofs.image.digest.Tie as tie
 
-abbrev Inv-loop : tie.InvT-loop
-Inv-loop image d₀ i₀ d i = (i ≤ 470) × (d < 65521)
+unsigned-requires : tie.Need-unsigned-requires
+unsigned-requires c κs = search needs
 
-abbrev μ-loop : tie.MeasureT-loop
-μ-loop image d₀ i₀ d i = 470 - i
+slice-aggregate-mix-bytes : tie.Need-slice-aggregate-mix-bytes
+slice-aggregate-mix-bytes c = search needs
 
-loop-holds : tie.Need-loop-holds Inv-loop μ-loop
-loop-holds c = search needs
+mix-bytes-requires : tie.Need-mix-bytes-requires
+mix-bytes-requires c κs = search needs
 
-mul-d : tie.Need-mul-d Inv-loop μ-loop
-mul-d c = search needs
+slice-aggregate-mix-bytes-2 : tie.Need-slice-aggregate-mix-bytes-2
+slice-aggregate-mix-bytes-2 c = search needs
 
-element-copy-out-wide : tie.Need-element-copy-out-wide Inv-loop μ-loop
-element-copy-out-wide c = search needs
+mix-bytes-requires-2 : tie.Need-mix-bytes-requires-2
+mix-bytes-requires-2 c κs = search needs
 
-wide-requires : tie.Need-wide-requires Inv-loop μ-loop
-wide-requires c κs = search needs
+slice-aggregate-mix-bytes-3 : tie.Need-slice-aggregate-mix-bytes-3
+slice-aggregate-mix-bytes-3 c = search needs
 
-add-d : tie.Need-add-d Inv-loop μ-loop
-add-d c = search needs
+mix-bytes-requires-3 : tie.Need-mix-bytes-requires-3
+mix-bytes-requires-3 c κs = search needs
 
-add-i : tie.Need-add-i Inv-loop μ-loop
-add-i c = search needs
+slice-aggregate-mix-bytes-4 : tie.Need-slice-aggregate-mix-bytes-4
+slice-aggregate-mix-bytes-4 c = search needs
 
-loop-less : tie.Need-loop-less Inv-loop μ-loop
-loop-less c = search needs
+mix-bytes-requires-4 : tie.Need-mix-bytes-requires-4
+mix-bytes-requires-4 c κs = search needs
 
-loop-again : tie.Need-loop-again Inv-loop μ-loop
-loop-again c = search needs
+mix-processes-requires : tie.Need-mix-processes-requires
+mix-processes-requires c κs = search needs
 
-returns : tie.Need-returns Inv-loop μ-loop
-returns c = search needs
+returns : tie.Need-returns
+unfolding imageOf
+returns c =
+    let s = c .before .before .before .before .before .before .before .before .before .before .before .before .before .before .args .state in
+    simp (c .mix-processes .ensures .0, c .before .mix-bytes4 .ensures .0, c .before .before .before .mix-bytes3 .ensures .0, c .before .before .before .before .before .mix-bytes2 .ensures .0, c .before .before .before .before .before .before .before .mix-bytes .ensures .0, c .before .before .before .before .before .before .before .before .before .before .before .before .unsigned .ensures, toZ-ofZ {w = w8} {z = s .gate} (search needs), digest-append)
 
 pub digest-spec : {M : Type 1} → statement M
 digest-spec =
     tie.close
     (tie.spec
-    Inv-loop
-    μ-loop
-    loop-holds
-    mul-d
-    element-copy-out-wide
-    wide-requires
-    add-d
-    add-i
-    loop-less
-    loop-again
+    unsigned-requires
+    slice-aggregate-mix-bytes
+    mix-bytes-requires
+    slice-aggregate-mix-bytes-2
+    mix-bytes-requires-2
+    slice-aggregate-mix-bytes-3
+    mix-bytes-requires-3
+    slice-aggregate-mix-bytes-4
+    mix-bytes-requires-4
+    mix-processes-requires
     returns)

@@ -1,20 +1,24 @@
--- `load` is safe and ends: the places passed are at most the array's, whose length stays. Assumes nothing.
-use Prim.Native.Nat.{_≤_, _-_}
-use mathlib.Core.Path.{_≡_}
-use lib.ListN.{length, length-set}
+-- `load` meets its contract. The loop keeps that each place passed holds its byte of the image; what is left of the array falls.
+-- Assumes nothing.
+use mathlib.Core.Path.{_≡_, refl}
+use Prim.Native.Nat.{ℕ, _+_, _-_, _≤_, _<_}
 use native.Mathlib.Omega.{arith}
+use lib.ListN.{length, getD, length-set}
+use Rattle.cases.specs.Image.{byteAt}
+use Rattle.cases.proofs.Filling.{by-place, one-more}
 use borrow.Author.Needs.{needs}
 use Rattle.cases.proofs.image.load.Statement.{statement}
 use Rattle.cases.proofs.image.load.Tie as tie
 
 abbrev Inv-loop : tie.InvT-loop
-Inv-loop image at bytes₀ i₀ bytes i = (i ≤ length bytes) × (length bytes ≡ length bytes₀)
+Inv-loop image at bytes₀ i₀ bytes i =
+    (i ≤ length bytes₀) × (length bytes ≡ length bytes₀) × ((j : ℕ) → j < i → getD bytes j 0 ≡ byteAt image (at + j))
 
 abbrev μ-loop : tie.MeasureT-loop
 μ-loop image at bytes₀ i₀ bytes i = length bytes₀ - i
 
 loop-holds : tie.Need-loop-holds Inv-loop μ-loop
-loop-holds c = search needs
+loop-holds c = (omega arith, refl, λ j k. absurd (omega (arith, k)))
 
 add-bytes : tie.Need-add-bytes Inv-loop μ-loop
 add-bytes c = search needs
@@ -32,13 +36,21 @@ loop-less : tie.Need-loop-less Inv-loop μ-loop
 loop-less c = search needs
 
 loop-again : tie.Need-loop-again Inv-loop μ-loop
-loop-again c = simp length-set (omega arith, omega arith)
+loop-again c =
+    let l = c .before .before .loop in (
+      omega (arith, c .before .loop-test .taken, l .inv .0, l .inv .1),
+      simp length-set (l .inv .1),
+      one-more 0 (λ j. byteAt (c .before .before .before .args .image .now) (c .before .before .before .args .at + j)) (l .bytes) (l .i) _ (c .before .loop-test .taken) refl (l .inv .2),
+    )
 
 same-length : tie.Need-same-length Inv-loop μ-loop
 same-length c = search needs
 
 returns : tie.Need-returns Inv-loop μ-loop
-returns c = search needs
+returns c =
+    let l = c .before .loop in
+    let a = c .before .before .args in
+    by-place (length (a .bytes .now)) (λ j. byteAt (a .image .now) (a .at + j)) 0 (l .bytes) (l .inv .1) (λ j k. l .inv .2 j (omega (arith, k, c .loop-test .left, l .inv .1)))
 
 pub load-spec : {M : Type 1} → statement M
 load-spec =

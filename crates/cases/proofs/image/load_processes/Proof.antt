@@ -1,11 +1,19 @@
--- `load_processes` is safe and ends: the processes passed are at most 64. Assumes nothing.
-use Prim.Native.Nat.{_≤_, _-_}
+-- `load_processes` meets its contract. The loop keeps that each place passed holds its process of the image; what is left of the 64
+-- falls. Assumes nothing.
+use mathlib.Core.Path.{_≡_, refl}
+use Prim.Native.Nat.{ℕ, _-_, _≤_, _<_}
+use native.Mathlib.Omega.{arith}
+use lib.ListN.{length, getD, length-set}
+use Rattle.machine.specs.State.{noProcess}
+use Rattle.cases.specs.Image.{processOf}
+use Rattle.cases.proofs.Filling.{by-place, one-more}
 use borrow.Author.Needs.{needs}
 use Rattle.cases.proofs.image.load_processes.Statement.{statement}
 use Rattle.cases.proofs.image.load_processes.Tie as tie
 
 abbrev Inv-loop : tie.InvT-loop
-Inv-loop image process₀ p₀ process p = p ≤ 64
+Inv-loop image process₀ p₀ process p =
+    (p ≤ 64) × (length process ≡ 64) × ((j : ℕ) → j < p → getD process j noProcess ≡ processOf image j)
 
 abbrev μ-loop : tie.MeasureT-loop
 μ-loop image process₀ p₀ process p = 64 - p
@@ -14,7 +22,7 @@ load-process-requires : tie.Need-load-process-requires Inv-loop μ-loop
 load-process-requires c κs = search needs
 
 loop-holds : tie.Need-loop-holds Inv-loop μ-loop
-loop-holds c = search needs
+loop-holds c = (omega arith, refl, λ j k. absurd (omega (arith, k)))
 
 load-process-requires-2 : tie.Need-load-process-requires-2 Inv-loop μ-loop
 load-process-requires-2 c κs = search needs
@@ -32,10 +40,20 @@ loop-less : tie.Need-loop-less Inv-loop μ-loop
 loop-less c = search needs
 
 loop-again : tie.Need-loop-again Inv-loop μ-loop
-loop-again c = search needs
+loop-again c =
+    let l = c .before .before .loop in
+    let image = c .before .before .before .before .args .image .now in
+    let small = c .before .loop-test .taken in (
+      omega (arith, small),
+      simp length-set (l .inv .1),
+      one-more noProcess (processOf image) (l .process) (l .p) (c .load-process2 .result) (omega (arith, small, l .inv .1)) (c .load-process2 .ensures) (l .inv .2),
+    )
 
 returns : tie.Need-returns Inv-loop μ-loop
-returns c = search needs
+returns c =
+    let l = c .before .loop in
+    let image = c .before .before .before .args .image .now in
+    by-place 64 (processOf image) noProcess (l .process) (l .inv .1) (λ j k. l .inv .2 j (omega (arith, k, c .loop-test .left)))
 
 pub load-processes-spec : {M : Type 1} → statement M
 load-processes-spec =

@@ -17,7 +17,8 @@ use Rattle.operations.specs.declared.place.Place.{Place}
 use Rattle.operations.proofs.Segments.{names-64}
 use Rattle.ranges.proofs.Accepted.{words-64}
 use Rattle.renaming.proofs.Arms.{Stored, stored-as, own, gate, queue, counter, segment, bit, parent, root, wrote, kind-done, stranger-done, kind-wrote, stranger-wrote}
-use Rattle.renaming.proofs.Checked.{Checked, length-mapped, limits, setting, event-checked}
+use Rattle.machine.proofs.Facts.Lists.{length-mapped}
+use Rattle.renaming.proofs.Checked.{Checked, limits, setting, event-checked}
 use Rattle.renaming.proofs.Going.{Going, next, finish}
 use Rattle.renaming.proofs.Used.{Used, used-at}
 use Rattle.renaming.proofs.runner.run_checked.Statement.{statement}
