@@ -14,7 +14,9 @@ fits-requires : tie.Need-fits-requires
 fits-requires c κs = search needs
 
 returns : tie.Need-returns
-returns c = let a = c .before .before .before .before .args in short (lines (a .journal .now)) (a .out .now) (leb-false _ _ (sym (c .before .fits2 .ensures) ∙ not-true _ (c .if1 .taken)))
+returns c =
+    let a = c .before .before .before .before .args in
+    short (lines (a .journal .now)) (a .out .now) (leb-false _ _ (sym (c .before .fits2 .ensures) ∙ not-true _ (c .if1 .taken)))
 
 fitting : (c : tie.Else1) → let a = c .before .before .before .before .args in length (lines (a .journal .now)) ≤ length (a .out .now)
 fitting c = leb-true _ _ (sym (c .before .fits2 .ensures) ∙ not-false _ (c .if1 .left))
@@ -26,7 +28,10 @@ same-length : tie.Need-same-length
 same-length c = search needs
 
 returns-2 : tie.Need-returns-2
-returns-2 c = let a = c .before .before .before .before .before .before .before .before .args in filled (lines (a .journal .now)) (a .out .now) (fitting (c .before .before .before .before)) (record { place = c .before .before .put-lines .ensures .0 ∙ sym (zero-add _); stored = c .before .before .put-lines .ensures .1 })
+returns-2 c =
+    let a = c .before .before .before .before .before .before .before .before .args in
+    filled (lines (a .journal .now)) (a .out .now) (fitting (c .before .before .before .before))
+    (record { place = c .before .before .put-lines .ensures .0 ∙ sym (zero-add _); stored = c .before .before .put-lines .ensures .1 })
 
 pub journal-text-spec : {M : Type 1} → statement M
 journal-text-spec =

@@ -21,25 +21,38 @@ third s = figure (getD (s .args .journal .now) (s .args .i + 2) 0) space
 abbrev fourth : tie.Start → List ℕ
 fourth s = figure (getD (s .args .journal .now) (s .args .i + 3) 0) newline
 
+-- from the point after each call to the one before it
+abbrev start : tie.After-put-figure → tie.Start
+start c = c .before .before .before .before .before
+
+abbrev to-1 : tie.After-put-figure2 → tie.After-put-figure
+to-1 c = c .before .before .before .before .before
+
+abbrev to-2 : tie.After-put-figure3 → tie.After-put-figure2
+to-2 c = c .before .before .before .before .before
+
+abbrev to-3 : tie.After-put-figure4 → tie.After-put-figure3
+to-3 c = c .before .before .before .before .before
+
 -- what each call put
 put-1 : (c : tie.After-put-figure)
-    → let s = c .before .before .before .before .before in
+    → let s = start c in
     Put (s .args .out .now) (c .put-figure .last .0) (s .args .at) (c .put-figure .result) (first s)
 put-1 c = record { place = c .put-figure .ensures .0; stored = c .put-figure .ensures .1 }
 
 put-2 : (c : tie.After-put-figure2)
-    → let s = c .before .before .before .before .before .before .before .before .before .before in
-    Put (c .before .before .before .before .before .put-figure .last .0) (c .put-figure2 .last .0) (c .before .before .before .before .before .put-figure .result) (c .put-figure2 .result) (second s)
+    → let b = to-1 c in
+    Put (b .put-figure .last .0) (c .put-figure2 .last .0) (b .put-figure .result) (c .put-figure2 .result) (second (start b))
 put-2 c = record { place = c .put-figure2 .ensures .0; stored = c .put-figure2 .ensures .1 }
 
 put-3 : (c : tie.After-put-figure3)
-    → let s = c .before .before .before .before .before .before .before .before .before .before .before .before .before .before .before in
-    Put (c .before .before .before .before .before .put-figure2 .last .0) (c .put-figure3 .last .0) (c .before .before .before .before .before .put-figure2 .result) (c .put-figure3 .result) (third s)
+    → let b = to-2 c in
+    Put (b .put-figure2 .last .0) (c .put-figure3 .last .0) (b .put-figure2 .result) (c .put-figure3 .result) (third (start (to-1 b)))
 put-3 c = record { place = c .put-figure3 .ensures .0; stored = c .put-figure3 .ensures .1 }
 
 put-4 : (c : tie.After-put-figure4)
-    → let s = c .before .before .before .before .before .before .before .before .before .before .before .before .before .before .before .before .before .before .before .before in
-    Put (c .before .before .before .before .before .put-figure3 .last .0) (c .put-figure4 .last .0) (c .before .before .before .before .before .put-figure3 .result) (c .put-figure4 .result) (fourth s)
+    → let b = to-3 c in
+    Put (b .put-figure3 .last .0) (c .put-figure4 .last .0) (b .put-figure3 .result) (c .put-figure4 .result) (fourth (start (to-1 (to-2 b))))
 put-4 c = record { place = c .put-figure4 .ensures .0; stored = c .put-figure4 .ensures .1 }
 
 -- the room for the line, and what is left of it after each call
@@ -48,25 +61,27 @@ unfolding line
 room s = s .pre .1
 
 room-2 : (c : tie.After-put-figure)
-    → let s = c .before .before .before .before .before in
+    → let s = start c in
     c .put-figure .result + length (second s ++ (third s ++ fourth s)) ≤ length (c .put-figure .last .0)
-room-2 c = let s = c .before .before .before .before .before in put-room (put-1 c) (second s ++ (third s ++ fourth s)) (room s)
+room-2 c = let s = start c in put-room (put-1 c) (second s ++ (third s ++ fourth s)) (room s)
 
 room-3 : (c : tie.After-put-figure2)
-    → let s = c .before .before .before .before .before .before .before .before .before .before in
+    → let s = start (to-1 c) in
     c .put-figure2 .result + length (third s ++ fourth s) ≤ length (c .put-figure2 .last .0)
-room-3 c = let s = c .before .before .before .before .before .before .before .before .before .before in put-room (put-2 c) (third s ++ fourth s) (room-2 (c .before .before .before .before .before))
+room-3 c = let s = start (to-1 c) in put-room (put-2 c) (third s ++ fourth s) (room-2 (to-1 c))
 
 room-4 : (c : tie.After-put-figure3)
-    → let s = c .before .before .before .before .before .before .before .before .before .before .before .before .before .before .before in
+    → let s = start (to-1 (to-2 c)) in
     c .put-figure3 .result + length (fourth s) ≤ length (c .put-figure3 .last .0)
-room-4 c = let s = c .before .before .before .before .before .before .before .before .before .before .before .before .before .before .before in put-room (put-3 c) (fourth s) (room-3 (c .before .before .before .before .before))
+room-4 c = let s = start (to-1 (to-2 c)) in put-room (put-3 c) (fourth s) (room-3 (to-2 c))
 
 shared-slice-read-put-figure : tie.Need-shared-slice-read-put-figure
 shared-slice-read-put-figure c = search needs
 
 put-figure-requires : tie.Need-put-figure-requires
-put-figure-requires c κs = let s = c .before .before .before .before in first-room (s .args .out .now) (first s) (second s ++ (third s ++ fourth s)) (s .args .at) (room s)
+put-figure-requires c κs =
+    let s = c .before .before .before .before in
+    first-room (s .args .out .now) (first s) (second s ++ (third s ++ fourth s)) (s .args .at) (room s)
 
 add-put-figure : tie.Need-add-put-figure
 add-put-figure c = search needs
@@ -75,7 +90,10 @@ shared-slice-read-put-figure-2 : tie.Need-shared-slice-read-put-figure-2
 shared-slice-read-put-figure-2 c = search needs
 
 put-figure-requires-2 : tie.Need-put-figure-requires-2
-put-figure-requires-2 c κs = let s = c .before .before .before .before .before .before .before .before .before in first-room (c .before .before .before .before .put-figure .last .0) (second s) (third s ++ fourth s) (c .before .before .before .before .put-figure .result) (room-2 (c .before .before .before .before))
+put-figure-requires-2 c κs =
+    let b = c .before .before .before .before in
+    let s = start b in
+    first-room (b .put-figure .last .0) (second s) (third s ++ fourth s) (b .put-figure .result) (room-2 b)
 
 add-put-figure-2 : tie.Need-add-put-figure-2
 add-put-figure-2 c = search needs
@@ -84,7 +102,10 @@ shared-slice-read-put-figure-3 : tie.Need-shared-slice-read-put-figure-3
 shared-slice-read-put-figure-3 c = search needs
 
 put-figure-requires-3 : tie.Need-put-figure-requires-3
-put-figure-requires-3 c κs = let s = c .before .before .before .before .before .before .before .before .before .before .before .before .before .before in first-room (c .before .before .before .before .put-figure2 .last .0) (third s) (fourth s) (c .before .before .before .before .put-figure2 .result) (room-3 (c .before .before .before .before))
+put-figure-requires-3 c κs =
+    let b = c .before .before .before .before in
+    let s = start (to-1 b) in
+    first-room (b .put-figure2 .last .0) (third s) (fourth s) (b .put-figure2 .result) (room-3 b)
 
 add-put-figure-3 : tie.Need-add-put-figure-3
 add-put-figure-3 c = search needs
@@ -100,7 +121,12 @@ same-length c = search needs
 
 returns : tie.Need-returns
 unfolding line
-returns c = let p = put-more (put-1 (c .before .before .before .before .before .before .before .before .before .before .before .before .before .before .before .before .before)) (put-more (put-2 (c .before .before .before .before .before .before .before .before .before .before .before .before)) (put-more (put-3 (c .before .before .before .before .before .before .before)) (put-4 (c .before .before)))) in (p .place, p .stored)
+returns c =
+    let c₄ = c .before .before in
+    let c₃ = to-3 c₄ in
+    let c₂ = to-2 c₃ in
+    let p = put-more (put-1 (to-1 c₂)) (put-more (put-2 c₂) (put-more (put-3 c₃) (put-4 c₄))) in
+    (p .place, p .stored)
 
 pub put-line-spec : {M : Type 1} → statement M
 put-line-spec =

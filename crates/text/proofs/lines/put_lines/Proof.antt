@@ -35,7 +35,10 @@ loop-less : tie.Need-loop-less Inv-loop μ-loop
 loop-less c = omega (arith, c .before .before .before .before .loop-test .taken)
 
 loop-again : tie.Need-loop-again Inv-loop μ-loop
-loop-again c = next (c .before .before .before .before .before .loop .inv) (more (c .before .before .before .before)) (record { place = c .before .before .put-line .ensures .0; stored = c .before .before .put-line .ensures .1 })
+loop-again c =
+    let l = c .before .before .before .before in
+    next (l .before .loop .inv) (more l)
+    (record { place = c .before .before .put-line .ensures .0; stored = c .before .before .put-line .ensures .1 })
 
 same-length : tie.Need-same-length Inv-loop μ-loop
 same-length c = c .before .loop .inv .same

@@ -23,7 +23,9 @@ unfolding refused
 refused-length n = omega (arith, figure-length n newline .0)
 
 returns : tie.Need-returns
-returns c = let a = c .before .before .before .args in short (refused (a .n)) (a .out .now) (omega (arith, c .if1 .taken, c .before .figure-size .ensures .0, refused-length (a .n)))
+returns c =
+    let a = c .before .before .before .args in
+    short (refused (a .n)) (a .out .now) (omega (arith, c .if1 .taken, c .before .figure-size .ensures .0, refused-length (a .n)))
 
 put-word-requires : tie.Need-put-word-requires
 put-word-requires c κs = search needs
@@ -41,14 +43,20 @@ word : (c : tie.After-put-word) → Put (c .before .before .before .before .befo
 word c = record { place = refl; stored = c .put-word .ensures }
 
 put-figure-requires : tie.Need-put-figure-requires
-put-figure-requires c κs = let a = c .before .before .before .before .before .before .before .before .args in put-room (word (c .before .before .before)) (figure (a .n) newline) (room (c .before .before .before .before .before))
+put-figure-requires c κs =
+    let a = c .before .before .before .before .before .before .before .before .args in
+    put-room (word (c .before .before .before)) (figure (a .n) newline) (room (c .before .before .before .before .before))
 
 same-length : tie.Need-same-length
 same-length c = search needs
 
 returns-2 : tie.Need-returns-2
 unfolding refused
-returns-2 c = let a = c .before .before .before .before .before .before .before .before .before .before .before .args in filled (refused (a .n)) (a .out .now) (fitting (c .before .before .before .before .before .before .before .before)) (put-more (word (c .before .before .before .before .before .before)) (record { place = c .before .before .put-figure .ensures .0; stored = c .before .before .put-figure .ensures .1 }))
+returns-2 c =
+    let a = c .before .before .before .before .before .before .before .before .before .before .before .args in
+    filled (refused (a .n)) (a .out .now) (fitting (c .before .before .before .before .before .before .before .before))
+    (put-more (word (c .before .before .before .before .before .before))
+    (record { place = c .before .before .put-figure .ensures .0; stored = c .before .before .put-figure .ensures .1 }))
 
 pub refused-text-spec : {M : Type 1} → statement M
 refused-text-spec =

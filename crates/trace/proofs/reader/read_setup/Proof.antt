@@ -23,7 +23,9 @@ at-least : (c : tie.Else1) → 27 ≤ length (c .before .before .before .args .f
 at-least c = long _ (kept c)
 
 returns : tie.Need-returns
-returns c = simp (c .before .before .layout-answer .ensures, c .blank-state .ensures) (sym (reads-lost _ (λ e. c .before .if1 .taken (c .before .before .layout-answer .ensures ∙ e))))
+returns c =
+    simp (c .before .before .layout-answer .ensures, c .blank-state .ensures)
+    (sym (reads-lost _ (λ e. c .before .if1 .taken (c .before .before .layout-answer .ensures ∙ e))))
 
 shared-slice-read-setup : tie.Need-shared-slice-read-setup
 shared-slice-read-setup c = omega (arith, at-least (c .before))
