@@ -41,7 +41,16 @@ returns : tie.Need-returns
 unfolding imageOf
 returns c =
     let s = c .before .before .before .before .before .before .before .before .before .before .before .before .before .before .args .state in
-    simp (c .mix-processes .ensures .0, c .before .mix-bytes4 .ensures .0, c .before .before .before .mix-bytes3 .ensures .0, c .before .before .before .before .before .mix-bytes2 .ensures .0, c .before .before .before .before .before .before .before .mix-bytes .ensures .0, c .before .before .before .before .before .before .before .before .before .before .before .before .unsigned .ensures, toZ-ofZ {w = w8} {z = s .gate} (search needs), digest-append)
+    simp (
+      c .mix-processes .ensures .0,
+      c .before .mix-bytes4 .ensures .0,
+      c .before .before .before .mix-bytes3 .ensures .0,
+      c .before .before .before .before .before .mix-bytes2 .ensures .0,
+      c .before .before .before .before .before .before .before .mix-bytes .ensures .0,
+      c .before .before .before .before .before .before .before .before .before .before .before .before .unsigned .ensures,
+      toZ-ofZ {w = w8} {z = s .gate} (search needs),
+      digest-append,
+    )
 
 pub digest-spec : {M : Type 1} → statement M
 digest-spec =

@@ -40,7 +40,8 @@ loop-again c =
     let l = c .before .before .loop in (
       omega (arith, c .before .loop-test .taken, l .inv .0, l .inv .1),
       simp length-set (l .inv .1),
-      one-more 0 (λ j. byteAt (c .before .before .before .args .image .now) (c .before .before .before .args .at + j)) (l .bytes) (l .i) _ (c .before .loop-test .taken) refl (l .inv .2),
+      one-more 0
+          (λ j. byteAt (c .before .before .before .args .image .now) (c .before .before .before .args .at + j)) (l .bytes) (l .i) _ (c .before .loop-test .taken) refl (l .inv .2),
     )
 
 same-length : tie.Need-same-length Inv-loop μ-loop
@@ -50,7 +51,8 @@ returns : tie.Need-returns Inv-loop μ-loop
 returns c =
     let l = c .before .loop in
     let a = c .before .before .args in
-    by-place (length (a .bytes .now)) (λ j. byteAt (a .image .now) (a .at + j)) 0 (l .bytes) (l .inv .1) (λ j k. l .inv .2 j (omega (arith, k, c .loop-test .left, l .inv .1)))
+    by-place (length (a .bytes .now)) (λ j. byteAt (a .image .now) (a .at + j)) 0 (l .bytes) (l .inv .1)
+    (λ j k. l .inv .2 j (omega (arith, k, c .loop-test .left, l .inv .1)))
 
 pub load-spec : {M : Type 1} → statement M
 load-spec =

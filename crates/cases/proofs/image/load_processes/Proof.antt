@@ -46,7 +46,8 @@ loop-again c =
     let small = c .before .loop-test .taken in (
       omega (arith, small),
       simp length-set (l .inv .1),
-      one-more noProcess (processOf image) (l .process) (l .p) (c .load-process2 .result) (omega (arith, small, l .inv .1)) (c .load-process2 .ensures) (l .inv .2),
+      one-more noProcess (processOf image) (l .process) (l .p) (c .load-process2 .result)
+          (omega (arith, small, l .inv .1)) (c .load-process2 .ensures) (l .inv .2),
     )
 
 returns : tie.Need-returns Inv-loop μ-loop

@@ -55,7 +55,13 @@ unfolding stateOf
 returns c =
     let gate : toZ w8 (ofZ w8 (c .before .signed .result)) ≡ c .before .signed .result = toZ-ofZ (search needs) in
     rw gate
-    (simp (c .before .signed .ensures, c .before .before .before .before .before .before .before .load-processes .ensures, c .before .before .before .before .before .before .before .before .before .load3 .ensures, c .before .before .before .before .before .before .before .before .before .before .before .before .load2 .ensures, c .before .before .before .before .before .before .before .before .before .before .before .before .before .before .before .load .ensures))
+    (simp (
+      c .before .signed .ensures,
+      c .before .before .before .before .before .before .before .load-processes .ensures,
+      c .before .before .before .before .before .before .before .before .before .load3 .ensures,
+      c .before .before .before .before .before .before .before .before .before .before .before .before .load2 .ensures,
+      c .before .before .before .before .before .before .before .before .before .before .before .before .before .before .before .load .ensures,
+    ))
 
 pub state-of-spec : {M : Type 1} → statement M
 state-of-spec =

@@ -56,7 +56,9 @@ accepted c = rw (eq-eqb (fileAnswer (c .before .before .before .before .args .fi
 returns-2 : tie.Need-returns-2
 returns-2 c =
     let a = c .before .before .before .before .before .before .before .before .before .before .before .before .args in
-    given-whole (fileText (a .file .now)) _ (a .out .now) (accepted (c .before .before .before .before .before .before .before .before) ∙ ap lines (sym (c .before .before .before .before .before .before .run-file .ensures .1)))
+    given-whole (fileText (a .file .now)) _ (a .out .now)
+    (accepted (c .before .before .before .before .before .before .before .before)
+    ∙ ap lines (sym (c .before .before .before .before .before .before .run-file .ensures .1)))
     (c .before .before .journal-text .ensures)
 
 pub file-text-spec : {M : Type 1} → statement M
