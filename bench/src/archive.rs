@@ -1,0 +1,201 @@
+//! The archive's calls, as `c/zevgorim.h` declares them.
+//!
+//! Every call returns for every argument and writes only to the slice it is
+//! lent, so the wrappers are safe. An empty slice of Rust is not null either.
+
+use std::mem::{offset_of, size_of, transmute};
+
+/// Length of a state's image.
+pub const IMAGE_BYTES: usize = 470;
+
+/// One process.
+#[repr(C)]
+#[derive(Clone, Copy, PartialEq, Eq, Debug)]
+pub struct Process {
+    pub stage: u8,
+    pub node: u8,
+    pub segment: u8,
+    pub name: u8,
+    pub steps: u8,
+}
+
+/// The whole state.
+#[repr(C)]
+#[derive(Clone, Copy, PartialEq, Eq, Debug)]
+pub struct State {
+    pub processes: u8,
+    pub leaves: u8,
+    pub segments: u8,
+    pub bits: u8,
+    pub gate: i8,
+    pub queued: u8,
+    pub queue: [u8; 64],
+    pub counters: [u8; 16],
+    pub words: [u8; 64],
+    pub process: [Process; 64],
+}
+
+/// What a call answers, and the state after it.
+#[repr(C)]
+#[derive(Clone, Copy, PartialEq, Eq, Debug)]
+pub struct Done {
+    pub answer: u8,
+    pub state: State,
+}
+
+/// The gate report.
+#[repr(C)]
+#[derive(Clone, Copy, PartialEq, Eq, Debug)]
+pub struct Report {
+    pub answer: u8,
+    pub free: u8,
+    pub queued: u8,
+}
+
+/// One record of the roll.
+#[cfg(feature = "fill_status")]
+#[repr(C)]
+#[derive(Clone, Copy, PartialEq, Eq, Debug)]
+pub struct Status {
+    pub stage: u8,
+    pub name: u8,
+    pub steps: u8,
+}
+
+/// A text in a lent buffer.
+#[repr(C)]
+#[derive(Clone, Copy, PartialEq, Eq, Debug)]
+pub struct Text {
+    pub answer: u8,
+    pub size: usize,
+}
+
+/// A part of a lent file.
+#[repr(C)]
+#[derive(Clone, Copy, PartialEq, Eq, Debug)]
+pub struct Part {
+    pub offset: usize,
+    pub size: usize,
+}
+
+const _: () = {
+    assert!(size_of::<Process>() == 5);
+    assert!(size_of::<State>() == IMAGE_BYTES);
+    assert!(offset_of!(State, gate) == 4);
+    assert!(offset_of!(State, queued) == 5);
+    assert!(offset_of!(State, queue) == 6);
+    assert!(offset_of!(State, counters) == 70);
+    assert!(offset_of!(State, words) == 86);
+    assert!(offset_of!(State, process) == 150);
+    assert!(size_of::<Done>() == 471);
+    assert!(offset_of!(Done, state) == 1);
+    assert!(size_of::<Report>() == 3);
+    assert!(size_of::<Text>() == 16);
+    assert!(offset_of!(Text, size) == 8);
+    assert!(size_of::<Part>() == 16);
+};
+
+#[cfg(feature = "fill_status")]
+const _: () = assert!(size_of::<Status>() == 3);
+
+mod calls {
+    use super::{Done, Part, Report, State, Text};
+
+    extern "C" {
+        pub fn zevgorim_setup(n: u8, l: u8, g: u8, b: u8) -> Done;
+        pub fn zevgorim_event(state: State, kind: u8, process: u8) -> Done;
+        pub fn zevgorim_run(
+            state: State,
+            events: *const u8,
+            events_len: usize,
+            journal: *mut u8,
+            journal_len: usize,
+        ) -> Done;
+        pub fn zevgorim_gate_report(state: State) -> Report;
+        #[cfg(feature = "fill_status")]
+        pub fn zevgorim_fill_status(
+            state: State,
+            records: *mut super::Status,
+            records_len: usize,
+        ) -> u8;
+        pub fn zevgorim_read_setup(file: *const u8, file_len: usize) -> Done;
+        pub fn zevgorim_read_events(file: *const u8, file_len: usize) -> Part;
+        pub fn zevgorim_journal_text(
+            journal: *const u8,
+            journal_len: usize,
+            out: *mut u8,
+            out_len: usize,
+        ) -> Text;
+        pub fn zevgorim_file_text(
+            file: *const u8,
+            file_len: usize,
+            out: *mut u8,
+            out_len: usize,
+        ) -> Text;
+    }
+}
+
+impl State {
+    /// The state that an image describes, in range or not.
+    #[inline]
+    pub fn from_image(image: [u8; IMAGE_BYTES]) -> State {
+        // SAFETY: both are 470 bytes, and any byte is a number of the state.
+        unsafe { transmute(image) }
+    }
+
+    /// The image of the state.
+    #[inline]
+    pub fn to_image(self) -> [u8; IMAGE_BYTES] {
+        // SAFETY: both are 470 bytes, and a state has no padding.
+        unsafe { transmute(self) }
+    }
+}
+
+#[inline]
+pub fn setup(n: u8, l: u8, g: u8, b: u8) -> Done {
+    unsafe { calls::zevgorim_setup(n, l, g, b) }
+}
+
+#[inline]
+pub fn event(state: State, kind: u8, process: u8) -> Done {
+    unsafe { calls::zevgorim_event(state, kind, process) }
+}
+
+#[inline]
+pub fn run(state: State, events: &[u8], journal: &mut [u8]) -> Done {
+    let (out, out_len) = (journal.as_mut_ptr(), journal.len());
+    unsafe { calls::zevgorim_run(state, events.as_ptr(), events.len(), out, out_len) }
+}
+
+#[inline]
+pub fn gate_report(state: State) -> Report {
+    unsafe { calls::zevgorim_gate_report(state) }
+}
+
+#[cfg(feature = "fill_status")]
+#[inline]
+pub fn fill_status(state: State, records: &mut [Status]) -> u8 {
+    unsafe { calls::zevgorim_fill_status(state, records.as_mut_ptr(), records.len()) }
+}
+
+#[inline]
+pub fn read_setup(file: &[u8]) -> Done {
+    unsafe { calls::zevgorim_read_setup(file.as_ptr(), file.len()) }
+}
+
+#[inline]
+pub fn read_events(file: &[u8]) -> Part {
+    unsafe { calls::zevgorim_read_events(file.as_ptr(), file.len()) }
+}
+
+#[inline]
+pub fn journal_text(journal: &[u8], out: &mut [u8]) -> Text {
+    let (to, to_len) = (out.as_mut_ptr(), out.len());
+    unsafe { calls::zevgorim_journal_text(journal.as_ptr(), journal.len(), to, to_len) }
+}
+
+#[inline]
+pub fn file_text(file: &[u8], out: &mut [u8]) -> Text {
+    let (to, to_len) = (out.as_mut_ptr(), out.len());
+    unsafe { calls::zevgorim_file_text(file.as_ptr(), file.len(), to, to_len) }
+}

@@ -1,0 +1,191 @@
+//! Lists and single events, from the fresh state of a setup or any other.
+
+use simulator::day_file::lay_out;
+use simulator::State;
+
+use super::difference::{same, same_state, Check, Difference};
+use super::lent::Lent;
+use super::Differ;
+use crate::archive;
+use crate::lists::{fresh, Setup, MOST_EVENTS};
+
+/// The archive's state of the same image.
+pub fn of(state: &State) -> archive::State {
+    archive::State::from_image(state.to_image())
+}
+
+/// The list call on a state, which becomes the one after it: the answer and
+/// the journal, if these and the state are the same.
+fn list(state: &mut State, events: &[u8], mut journal: Lent) -> Result<(u8, Lent), Difference> {
+    let mut expected = journal.clone();
+    let got = archive::run(of(state), events, journal.lend());
+    let answer = state.run(events, expected.lend());
+    same("the list's answer", got.answer, answer)?;
+    if answer == 0 {
+        same_entries(events, journal.lend(), expected.lend())?;
+    }
+    journal.same("the list's journal", &expected)?;
+    same_state("after the list", got.state, state)?;
+    Ok((answer, journal))
+}
+
+/// Every event has the same journal entry.
+fn same_entries(events: &[u8], got: &[u8], expected: &[u8]) -> Check {
+    let size = 2 * events.len();
+    if got[..size] == expected[..size] {
+        return Ok(());
+    }
+    let entries = got.chunks_exact(4).zip(expected.chunks_exact(4));
+    for ((number, event), (got, expected)) in events.chunks_exact(2).enumerate().zip(entries) {
+        let what = format_args!(
+            "journal of event {number} (the first is 0), kind {}, process {}",
+            event[0], event[1]
+        );
+        same(what, got, expected)?;
+    }
+    Ok(())
+}
+
+/// The event call on a state, which becomes the one after it: the answer, if
+/// it and the state are the same.
+fn event(state: &mut State, number: usize, kind: u8, process: u8) -> Result<u8, Difference> {
+    let got = archive::event(of(state), kind, process);
+    let answer = state.event(kind, process);
+    let event =
+        format_args!("event {number} (the first is 0) by itself, kind {kind}, process {process}");
+    same(format_args!("{event}: the answer"), got.answer, answer)?;
+    same_state(event, got.state, state)?;
+    Ok(answer)
+}
+
+/// The shortest beginning of a list that shows a difference one event at a
+/// time, or the whole list.
+fn shortest(setup: Setup, events: &[u8]) -> &[u8] {
+    let mut state = fresh(setup);
+    for (number, pair) in events.chunks_exact(2).enumerate() {
+        let differs = list(&mut state.clone(), pair, Lent::new(4, 0)).is_err();
+        if differs || event(&mut state, number, pair[0], pair[1]).is_err() {
+            return &events[..2 * number + 2];
+        }
+    }
+    events
+}
+
+/// Whether the program's lines for a day file are the same.
+fn same_text(file: &[u8]) -> bool {
+    let mut out = vec![0; 8 * file.len()];
+    let size = archive::file_text(file, &mut out).size;
+    out[..size] == *simulator::file_text(file).as_bytes()
+}
+
+/// The difference with its setup and list as a day file.
+fn as_file(difference: Difference, setup: Setup, events: &[u8]) -> Difference {
+    let shown = shortest(setup, events);
+    let count = shown.len() / 2;
+    let file = lay_out(setup, shown);
+    let mut difference = difference
+        .given_figures("setup", &setup)
+        .given("events", events.len() / 2)
+        .given("events in the day file", count);
+    if count > MOST_EVENTS {
+        difference = difference.given("too many for a day file, which has at most", MOST_EVENTS);
+    } else if same_text(&file) {
+        difference = difference.given("its lines", "the same, only the state differs");
+    }
+    difference.replay(file)
+}
+
+impl Differ {
+    /// Room for the journal of a list, often with bytes to spare.
+    fn journal(&mut self, events: &[u8]) -> Lent {
+        let spare = [0, 1, 3, 4, 5, 64][self.rng.below(6)];
+        Lent::new(2 * events.len() + spare, self.rng.byte())
+    }
+
+    /// A list on a state, as `list` does it, and its place in the tally.
+    fn counted(&mut self, state: &mut State, events: &[u8], journal: Lent) -> Check {
+        let (answer, mut journal) = list(state, events, journal)?;
+        self.tally.lists += 1;
+        if answer == 0 {
+            self.tally.add_list(&journal.lend()[..2 * events.len()]);
+        } else {
+            self.tally.refused_lists += 1;
+        }
+        Ok(())
+    }
+
+    /// The list of a setup, and the state after it.
+    pub fn list_of(&mut self, setup: Setup, events: &[u8]) -> Result<State, Difference> {
+        let journal = self.journal(events);
+        let mut state = fresh(setup);
+        self.counted(&mut state, events, journal)
+            .map_err(|found| as_file(found, setup, events))?;
+        Ok(state)
+    }
+
+    /// The list of a setup, one event at a time.
+    pub fn chain(&mut self, setup: Setup, events: &[u8]) -> Check {
+        let mut state = fresh(setup);
+        for (number, pair) in events.chunks_exact(2).enumerate() {
+            let answer = event(&mut state, number, pair[0], pair[1])
+                .map_err(|found| as_file(found, setup, events))?;
+            self.tally.add_event(answer);
+        }
+        Ok(())
+    }
+
+    /// The list of a setup with a byte too many, too little journal or both.
+    pub fn refused_list(&mut self, setup: Setup, events: &[u8]) -> Check {
+        let (events, journal) = self.damage(events);
+        self.refusable(&mut fresh(setup), &events, journal)
+            .map_err(|found| found.replay(lay_out(setup, &events)))
+    }
+
+    /// A list that may be refused, on any state.
+    fn refusable(&mut self, state: &mut State, events: &[u8], journal: Lent) -> Check {
+        let image = state.to_image();
+        let room = journal.room();
+        self.counted(state, events, journal).map_err(|found| {
+            found
+                .given_figures("state", &image)
+                .given_figures("events", events)
+                .given("journal bytes", room)
+        })
+    }
+
+    /// A copy of a list with a byte too many, too little journal or both.
+    fn damage(&mut self, events: &[u8]) -> (Vec<u8>, Lent) {
+        let mut events = events.to_vec();
+        let turn = self.rng.below(3);
+        if turn != 0 {
+            events.push(self.rng.byte());
+        }
+        let right = 4 * (events.len() / 2);
+        let room = match self.rng.below(3) {
+            _ if turn == 1 => right + 4,
+            0 => self.rng.below(right),
+            1 => right.saturating_sub(4),
+            _ => right.saturating_sub(1),
+        };
+        (events, Lent::new(room, self.rng.byte()))
+    }
+
+    /// A list for any state, one in six damaged.
+    pub fn any_list(&mut self, state: &State, events: &[u8]) -> Check {
+        let (events, journal) = if self.rng.chance(1, 6) {
+            self.damage(events)
+        } else {
+            (events.to_vec(), self.journal(events))
+        };
+        self.refusable(&mut state.clone(), &events, journal)
+    }
+
+    /// An event by itself on any state, which becomes the one after it.
+    pub fn any_event(&mut self, state: &mut State, kind: u8, process: u8) -> Check {
+        let image = state.to_image();
+        let answer =
+            event(state, 0, kind, process).map_err(|found| found.given_figures("state", &image))?;
+        self.tally.add_event(answer);
+        Ok(())
+    }
+}
