@@ -53,7 +53,6 @@ pub struct Report {
 }
 
 /// One record of the roll.
-#[cfg(feature = "fill_status")]
 #[repr(C)]
 #[derive(Clone, Copy, PartialEq, Eq, Debug)]
 pub struct Status {
@@ -95,7 +94,6 @@ const _: () = {
     assert!(size_of::<Part>() == 16);
 };
 
-#[cfg(feature = "fill_status")]
 const _: () = assert!(size_of::<Status>() == 3);
 
 mod calls {
@@ -112,7 +110,6 @@ mod calls {
             journal_len: usize,
         ) -> Done;
         pub fn zevgorim_gate_report(state: State) -> Report;
-        #[cfg(feature = "fill_status")]
         pub fn zevgorim_fill_status(
             state: State,
             records: *mut super::Status,
@@ -172,7 +169,6 @@ pub fn gate_report(state: State) -> Report {
     unsafe { calls::zevgorim_gate_report(state) }
 }
 
-#[cfg(feature = "fill_status")]
 #[inline]
 pub fn fill_status(state: State, records: &mut [Status]) -> u8 {
     unsafe { calls::zevgorim_fill_status(state, records.as_mut_ptr(), records.len()) }

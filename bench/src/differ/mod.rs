@@ -3,7 +3,6 @@
 mod difference;
 mod files;
 mod lent;
-#[cfg(feature = "fill_status")]
 mod rolls;
 mod runs;
 mod states;

@@ -113,7 +113,6 @@ impl Differ {
             [expected.answer, expected.open, expected.queued],
         )
         .map_err(|found| found.given_figures("state", &state.to_image()))?;
-        #[cfg(feature = "fill_status")]
         self.roll(state)?;
         Ok(())
     }

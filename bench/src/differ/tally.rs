@@ -76,9 +76,6 @@ impl fmt::Display for Tally {
             }
             writeln!(out)?;
         }
-        if cfg!(not(feature = "fill_status")) {
-            writeln!(out, "no rolls: built without the feature fill_status")?;
-        }
         writeln!(out, "answers to events: {}", self.answers())?;
         writeln!(out, "all agree")
     }
