@@ -1,5 +1,6 @@
 -- What the functions' proofs share.
 pub mod Accepted
+pub mod Bounds
 pub mod GateWord
 pub mod Masks
 pub mod Verdict
