@@ -6,3 +6,4 @@ pub mod MovingUp
 pub mod Stages
 pub mod Segments
 pub mod ByPlace
+pub mod Levels

@@ -64,21 +64,15 @@ pub fn bounded_decrement(c: u8) -> Applied
     }
 }
 
-// The fresh value of node v's counter, k / 2^(d+1).
+// One more than the depth of each node that may carry a counter.
+const LEVELS: [u8; 16] = [1, 1, 2, 2, 3, 3, 3, 3, 4, 4, 4, 4, 4, 4, 4, 4];
+
+// The fresh value of node v's counter, k / 2^(d+1). A table and no comparisons: the depths of a list's nodes come in no order.
 pub fn fresh_counter(k: u8, v: u8) -> u8
     ensures { λ r. ⌜ r ≡ freshCounter k v ⌝ }
 {
-    if v < 2 {
-        return k / 2;
-    }
-    if v < 4 {
-        return k / 4;
-    }
-    if v < 8 {
-        return k / 8;
-    }
     if v < 16 {
-        return k / 16;
+        return k >> LEVELS[v as usize];
     }
-    k / 32
+    k >> 5
 }
