@@ -14,8 +14,8 @@ ghost use Rattle.text.specs.Lent.{given, lentAfter};
 // Runs an accepted file's events, and answers how many bytes their journal takes.
 fn run_file(file: &[u8], journal: &mut [u8]) -> usize
     requires { ⌜ (fileAnswer (now file) ≡ 0) × (65536 ≤ length (now journal)) ⌝ }
-    ensures { λ r. ⌜ (r ≤ length (now (journal .exit))) × (r ≡ length (take r (now (journal .exit)))) ⌝ }
     ensures { λ r. ⌜ take r (now (journal .exit)) ≡ fileJournal (now (file .entry)) ⌝ }
+    ensures { λ r. ⌜ (r ≤ length (now (journal .exit))) × (r ≡ length (take r (now (journal .exit)))) ⌝ }
 {
     let setup = reader::read_setup(file);
     let events = reader::read_events(file);

@@ -58,7 +58,7 @@ returns-2 c =
     let a = c .before .before .before .before .before .before .before .before .before .before .before .before .args in
     given-whole (fileText (a .file .now)) _ (a .out .now)
     (accepted (c .before .before .before .before .before .before .before .before)
-    ∙ ap lines (sym (c .before .before .before .before .before .before .run-file .ensures .1)))
+    ∙ ap lines (sym (c .before .before .before .before .before .before .run-file .ensures .0)))
     (c .before .before .journal-text .ensures)
 
 pub file-text-spec : {M : Type 1} → statement M
