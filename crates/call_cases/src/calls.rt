@@ -1,6 +1,7 @@
 // One record of the input: a state's image, the call's number, and what the call is given besides. 0 is an event, with its
 // kind and its process; 1 a list, with the events' length, the journal's length and the events; 2 the gate report.
 use cases::image;
+use cases::input;
 use cases::line;
 use machine::Done;
 use machine::State;
@@ -9,13 +10,6 @@ use renaming::list;
 use renaming::report;
 ghost use Prim.Native.Nat.{_≤_};
 ghost use lib.ListN.{length};
-
-// A byte as a length.
-fn size(x: u8) -> usize
-    ensures { λ r. ⌜ r ≤ 255 ⌝ }
-{
-    x as usize
-}
 
 // Begins a line with the call's word, its answer and the digest of the state that it gave back.
 fn put_done(text: &mut [u8; 6000], word: &[u8], done: Done) -> usize
@@ -46,8 +40,8 @@ fn list_call(state: State) -> bool {
     if io::read_full(0, &mut given) < 2 {
         return false;
     }
-    let e = size(given[0]);
-    let j = size(given[1]);
+    let e = input::size(given[0]);
+    let j = input::size(given[1]);
     let mut events = [0u8; 255];
     if io::read_full(0, &mut events[0..e]) < e {
         return false;

@@ -1,3 +1,4 @@
-// What the programs share that are compared with the simulator: states as bytes, and lines of output.
+// What the programs share that are compared with the simulator: states as bytes, lengths, and lines of output.
 pub mod image;
+pub mod input;
 pub mod line;

@@ -1,16 +1,9 @@
 // Reads day files from standard input until it ends, each behind its length in four bytes, low byte first. Prints for each a line
 // `case N`, and then what `pads` prints for it. What to compare with, in the file `stdout`, comes from a simulator of other
 // authorship.
+use cases::input;
 use cases::line;
 use text::file;
-ghost use Prim.Native.Nat.{_≤_};
-
-// A byte as a length.
-fn wide(x: u8) -> usize
-    ensures { λ r. ⌜ r ≤ 255 ⌝ }
-{
-    x as usize
-}
 
 // Reads the next file's length. One that no case has, where the input ends.
 fn next_size() -> usize {
@@ -18,7 +11,10 @@ fn next_size() -> usize {
     if io::read_full(0, &mut head) < 4 {
         return usize::MAX;
     }
-    wide(head[0]) + 256 * wide(head[1]) + 65536 * wide(head[2]) + 16777216 * wide(head[3])
+    input::size(head[0])
+        + 256 * input::size(head[1])
+        + 65536 * input::size(head[2])
+        + 16777216 * input::size(head[3])
 }
 
 fn print_number(n: u64) -> bool {

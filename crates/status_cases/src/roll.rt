@@ -1,6 +1,7 @@
 // One record of the input, and its line.
 use crate::lend;
 use cases::image;
+use cases::input;
 use cases::line;
 use lend::Filled;
 use machine::Done;
@@ -8,13 +9,6 @@ use machine::State;
 use machine::Status;
 use renaming::list;
 ghost use Prim.Native.Nat.{_+_, _≤_};
-
-// A byte as a length.
-fn size(x: u8) -> usize
-    ensures { λ r. ⌜ r ≤ 255 ⌝ }
-{
-    x as usize
-}
 
 // Appends the three numbers of a record.
 fn put_status(text: &mut [u8; 6000], at: usize, record: Status) -> usize
@@ -50,7 +44,7 @@ fn run_next(state: State) -> Done {
             state: state,
         };
     }
-    let e = size(given[0]);
+    let e = input::size(given[0]);
     let mut events = [0u8; 255];
     if io::read_full(0, &mut events[0..e]) < e {
         return Done {
@@ -94,7 +88,7 @@ pub(crate) fn next() -> bool {
     if io::read_full(0, &mut given) < 1 {
         return false;
     }
-    let count = size(given[0]);
+    let count = input::size(given[0]);
     if count > 80 {
         return false;
     }
