@@ -1,2 +1,3 @@
--- What C is given where it cannot be given a slice.
+-- What C is given where it cannot be given a slice, and C's numbers as bytes.
 pub mod Part
+pub mod Narrow

@@ -3,8 +3,13 @@ use mathlib.Core.Bool.{cond}
 use mathlib.Core.List.{List}
 use Prim.Native.Nat.{ℕ}
 use lib.Dec.{eqb}
+use lib.ListN.{take, drop}
 use Rattle.trace.specs.Layout.{bodySize, fileAnswer}
 use Rattle.zevgorim.specs.declared.Part.{Part}
+
+-- the bytes of a file that a part names: `size` of them, from byte `offset` on
+abbrev pub bytesOf : Part → List ℕ → List ℕ
+bytesOf part f = take (part .size) (drop (part .offset) f)
 
 -- body 2 begins at byte 27; a refused file has an empty part
 unfoldable pub eventsPart : List ℕ → Part

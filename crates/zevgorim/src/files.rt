@@ -6,11 +6,18 @@ use text::file;
 use text::lines;
 use trace::reader;
 ghost use mathlib.Core.Path.{_≡_};
-ghost use Rattle.trace.specs.Layout.{readSetup};
+ghost use Rattle.trace.specs.Layout.{fileAnswer, readSetup, readEvents};
 ghost use Rattle.text.specs.File.{fileText};
 ghost use Rattle.text.specs.Lent.{given, lentAfter};
 ghost use Rattle.text.specs.Lines;
-ghost use Rattle.zevgorim.specs.Part.{eventsPart};
+ghost use Rattle.zevgorim.specs.Part.{bytesOf, eventsPart};
+
+#[no_mangle]
+pub extern "C" fn zevgorim_file_answer(file: &[u8]) -> u8
+    ensures { λ r. ⌜ r ≡ fileAnswer (now (file .entry)) ⌝ }
+{
+    reader::file_answer(file)
+}
 
 #[no_mangle]
 pub extern "C" fn zevgorim_read_setup(file: &[u8]) -> Done
@@ -19,10 +26,10 @@ pub extern "C" fn zevgorim_read_setup(file: &[u8]) -> Done
     reader::read_setup(file)
 }
 
-// The events of a file, as a place and a size in it.
+// The events of a file, as a place and a size in it: the bytes there are those that `read_events` hands back.
 #[no_mangle]
 pub extern "C" fn zevgorim_read_events(file: &[u8]) -> Part
-    ensures { λ r. ⌜ r ≡ eventsPart (now (file .entry)) ⌝ }
+    ensures { λ r. ⌜ (r ≡ eventsPart (now (file .entry))) × (bytesOf r (now (file .entry)) ≡ readEvents (now (file .entry))) ⌝ }
 {
     if reader::file_answer(file) != 0 {
         return Part { offset: 0, size: 0 };
@@ -35,14 +42,16 @@ pub extern "C" fn zevgorim_read_events(file: &[u8]) -> Part
 
 #[no_mangle]
 pub extern "C" fn zevgorim_journal_text(journal: &[u8], out: &mut [u8]) -> Text
-    ensures { λ r. ⌜ (r ≡ given (Lines.lines (now (journal .entry))) (now (out .entry))) × (now (out .exit) ≡ lentAfter (Lines.lines (now (journal .entry))) (now (out .entry))) ⌝ }
+    ensures { λ r. ⌜ (r ≡ given (Lines.lines (now (journal .entry))) (now (out .entry)))
+        × (now (out .exit) ≡ lentAfter (Lines.lines (now (journal .entry))) (now (out .entry))) ⌝ }
 {
     lines::journal_text(journal, out)
 }
 
 #[no_mangle]
 pub extern "C" fn zevgorim_file_text(file: &[u8], out: &mut [u8]) -> Text
-    ensures { λ r. ⌜ (r ≡ given (fileText (now (file .entry))) (now (out .entry))) × (now (out .exit) ≡ lentAfter (fileText (now (file .entry))) (now (out .entry))) ⌝ }
+    ensures { λ r. ⌜ (r ≡ given (fileText (now (file .entry))) (now (out .entry)))
+        × (now (out .exit) ≡ lentAfter (fileText (now (file .entry))) (now (out .entry))) ⌝ }
 {
     file::file_text(file, out)
 }

@@ -7,7 +7,8 @@ ghost use Rattle.machine.specs.Reports.{statusAnswer, statusList};
 
 #[no_mangle]
 pub extern "C" fn zevgorim_fill_status(state: State, records: &mut [Status]) -> u8
-    ensures { λ r. ⌜ (r ≡ statusAnswer state (now (records .entry))) × (now (records .exit) ≡ statusList state (now (records .entry))) ⌝ }
+    ensures { λ r. ⌜ (r ≡ statusAnswer state (now (records .entry)))
+        × (now (records .exit) ≡ statusList state (now (records .entry))) ⌝ }
 {
     fill::fill_status(state, records)
 }

@@ -1,4 +1,5 @@
-// Setup, events, lists and the gate report, for C.
+// Setup, events, lists and the gate report, for C. A number comes in 32 bits and is refused where it is too large: none is cut.
+use crate::narrow;
 use machine::Done;
 use machine::Report;
 use machine::State;
@@ -13,22 +14,49 @@ ghost use Rattle.machine.specs.Reports;
 ghost use Rattle.machine.specs.State.{setup as State·setup};
 
 #[no_mangle]
-pub extern "C" fn zevgorim_setup(n: u8, l: u8, g: u8, b: u8) -> Done
+pub extern "C" fn zevgorim_setup(n: u32, l: u32, g: u32, b: u32) -> Done
     ensures { λ r. ⌜ r ≡ State·setup n l g b ⌝ }
 {
-    setup::setup(n, l, g, b)
+    setup::setup(
+        narrow::narrowed(n),
+        narrow::narrowed(l),
+        narrow::narrowed(g),
+        narrow::narrowed(b),
+    )
 }
 
 #[no_mangle]
-pub extern "C" fn zevgorim_event(state: State, kind: u8, process: u8) -> Done
+pub extern "C" fn zevgorim_event(state: State, kind: u32, process: u32) -> Done
     ensures { λ r. ⌜ r ≡ Event.event state kind process ⌝ }
 {
-    event::event(state, kind, process)
+    event::event(state, narrow::narrowed(kind), narrow::narrowed(process))
+}
+
+#[no_mangle]
+pub extern "C" fn zevgorim_request(state: State, process: u32) -> Done
+    ensures { λ r. ⌜ r ≡ Event.event state 0 process ⌝ }
+{
+    zevgorim_event(state, 0, process)
+}
+
+#[no_mangle]
+pub extern "C" fn zevgorim_step(state: State, process: u32) -> Done
+    ensures { λ r. ⌜ r ≡ Event.event state 1 process ⌝ }
+{
+    zevgorim_event(state, 1, process)
+}
+
+#[no_mangle]
+pub extern "C" fn zevgorim_release(state: State, process: u32) -> Done
+    ensures { λ r. ⌜ r ≡ Event.event state 2 process ⌝ }
+{
+    zevgorim_event(state, 2, process)
 }
 
 #[no_mangle]
 pub extern "C" fn zevgorim_run(state: State, events: &[u8], journal: &mut [u8]) -> Done
-    ensures { λ r. ⌜ (r ≡ Lists.run state (now (events .entry)) (now (journal .entry))) × (now (journal .exit) ≡ Lists.runJournal state (now (events .entry)) (now (journal .entry))) ⌝ }
+    ensures { λ r. ⌜ (r ≡ Lists.run state (now (events .entry)) (now (journal .entry)))
+        × (now (journal .exit) ≡ Lists.runJournal state (now (events .entry)) (now (journal .entry))) ⌝ }
 {
     list::run(state, events, journal)
 }
