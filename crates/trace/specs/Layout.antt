@@ -58,3 +58,11 @@ readSetup f = checked (layoutChecks f) (λ a. done a blank) (setup (byte f 23) (
 -- Body 2 is the events, from byte 27 on. A refused file hands back an empty part.
 unfoldable pub readEvents : List ℕ → List ℕ
 readEvents f = cond (eqb (fileAnswer f) 0) (drop 27 f) []
+
+-- The part begins so many bytes into the lent file: it is the caller's own slice and no copy.
+unfoldable pub eventsStart : List ℕ → ℕ
+eventsStart f = cond (eqb (fileAnswer f) 0) 27 0
+
+-- a place in memory, a block and an offset in it, n bytes on
+abbrev pub further : ℕ → ℕ × ℕ → ℕ × ℕ
+further n a = (a .0, n + a .1)

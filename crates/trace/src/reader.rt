@@ -5,7 +5,8 @@ use machine::Done;
 use ranges::limits;
 use renaming::setup;
 ghost use mathlib.Core.Path.{_≡_};
-ghost use Rattle.trace.specs.Layout.{fileAnswer, readSetup, readEvents};
+ghost use denote.Ref.{ptr};
+ghost use Rattle.trace.specs.Layout.{fileAnswer, readSetup, readEvents, eventsStart, further};
 
 // 0, or the number of the refusal: 10, 11, then 1 to 5.
 pub fn file_answer(file: &[u8]) -> u8
@@ -32,12 +33,13 @@ pub fn read_setup(file: &[u8]) -> Done
     setup::setup(file[23], file[24], file[25], file[26])
 }
 
-// The events, the caller's file from byte 27 on; of a refused file, an empty part of it.
+// The events, the caller's own file from byte 27 on and no copy; of a refused file, an empty part of it.
 pub fn read_events(file: &[u8]) -> &[u8]
-    ensures { λ r. ⌜ now r ≡ readEvents (now (file .entry)) ⌝ }
+    ensures { λ r. ⌜ (now r ≡ readEvents (now (file .entry)))
+        × (ptr r ≡ further (eventsStart (now (file .entry))) (ptr (file .entry))) ⌝ }
 {
-    let a = file_answer(file);
-    if a != 0 {
+    let answer = file_answer(file);
+    if answer != 0 {
         return &file[0..0];
     }
     &file[27..]

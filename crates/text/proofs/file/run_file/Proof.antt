@@ -24,7 +24,11 @@ returns c =
     let s = c .before .before .before .before .before .before .before .before in
     let f = s .args .file .now in
     let j = s .args .journal .now in
-    rw (c .before .before .run .ensures .1, c .before .before .before .before .before .read-setup .ensures, c .before .before .before .before .read-events .ensures)
+    rw (
+      c .before .before .run .ensures .1,
+      c .before .before .before .before .before .read-setup .ensures,
+      c .before .before .before .before .read-events .ensures .0,
+    )
     (file-journal f j (s .pre .0) (s .pre .1), file-journal-size f j (s .pre .0) (s .pre .1))
 
 pub run-file-spec : {M : Type 1} → statement M

@@ -1,11 +1,11 @@
--- `read_events` meets its contract: the part from byte 27 is the file without its first 27 bytes. Assumes nothing.
+-- `read_events` meets its contract: the part is the caller's own file without its first 27 bytes. Assumes nothing.
 use mathlib.Core.Path.{_≡_, sym, _∙_}
 use Prim.Native.Nat.{_-_, _≤_}
 use native.Mathlib.Nat.{le-refl}
 use native.Mathlib.Omega.{arith}
 use lib.ListN.{length, drop, length-drop}
 use lib.Seq.{take-all}
-use Rattle.trace.specs.Layout.{fileAnswer, readEvents}
+use Rattle.trace.specs.Layout.{fileAnswer, readEvents, eventsStart}
 use Rattle.trace.proofs.Accepted.{long, has-layout}
 use Rattle.operations.proofs.Rules.{tests}
 use borrow.Author.Needs.{needs}
@@ -25,7 +25,7 @@ part-result-end : tie.Need-part-result-end
 part-result-end c = search needs
 
 returns : tie.Need-returns
-unfolding readEvents
+unfolding readEvents eventsStart
 returns c = search (tests, sym (c .before .before .file-answer .ensures))
 
 -- past the refusal
@@ -45,7 +45,7 @@ part-result-end-2 : tie.Need-part-result-end-2
 part-result-end-2 c = search needs
 
 returns-2 : tie.Need-returns-2
-unfolding readEvents
+unfolding readEvents eventsStart
 returns-2 c =
     let f = c .before .before .before .before .args .file .now in
     search (tests, answered (c .before), take-all (length f - 27) (drop 27 f) (simp length-drop (le-refl _)))
