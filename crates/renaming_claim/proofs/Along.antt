@@ -50,10 +50,10 @@ list-steps s k p l (e ∷ es) =
     ∙ ap (claimSteps p (eventDone s e .state) es) (event-steps (mover k l) e)
 
 -- what holds within the rest of a list holds within the list, with one step more where its first event is one
-later : {n k : ℕ} {s : State} {p : ℕ} {fs : List Event} (e : Event) → ind (stepOf p e) + n ≤ k → HoldsWithin n (eventDone s e .state) p fs
-    → HoldsWithin k s p (e ∷ fs)
+later : {n k : ℕ} {p : ℕ} {fs : List Event} (s : State) (e : Event) → ind (stepOf p e) + n ≤ k
+    → HoldsWithin n (after (eventDone s e .state)) p fs → HoldsWithin k (after s) p (e ∷ fs)
 unfolding after stepsGiven
-later e few w =
+later s e few w =
     record { place = suc (w .place); inside = omega (arith, w .inside); isStep = w .isStep; early = omega (arith, w .early); holds = w .holds }
 
 -- one event of a list, where p is in getname before it
@@ -66,11 +66,13 @@ module _ (s : State) (so : Sound s) (p : ℕ) (l : p < s .processes) (st : proce
 
   -- what the rest of the list gives, from the state after the event
   abbrev Rest : Type 0
-  Rest = (n : ℕ) → processAt t p .stage ≡ getname → height (t .leaves) + t .segments ≤ processAt t p .steps + n → n ≤ stepsGiven p fs → HoldsWithin n t p fs
+  Rest =
+      (n : ℕ) → processAt t p .stage ≡ getname → height (t .leaves) + t .segments ≤ processAt t p .steps + n → n ≤ stepsGiven p fs
+      → HoldsWithin n (after t) p fs
 
   module _ (k : ℕ) (enough : height (s .leaves) + s .segments ≤ processAt s p .steps + k) (rest : Rest) where
     -- a step of p wins, or leaves one step fewer to go
-    step-wins : stepOf p e ≡ true → k ≤ suc (stepsGiven p fs) → HoldsWithin k s p (e ∷ fs)
+    step-wins : stepOf p e ≡ true → k ≤ suc (stepsGiven p fs) → HoldsWithin k (after s) p (e ∷ fs)
     unfolding after stepsGiven
     step-wins i given =
         let own : e .process ≡ p = eqb-true _ _ (and-left (eqb (e .process) p) (eqb (e .kind) 1) i) in
@@ -86,25 +88,25 @@ module _ (s : State) (so : Sound s) (p : ℕ) (l : p < s .processes) (st : proce
         let few : processAt s p .steps < height (s .leaves) + s .segments = fewer-steps m st in
         ⊎-elim
         (λ w. record { place = 0; inside = omega arith; isStep = i; early = omega arith; holds = w })
-        (λ w. later e (rw i (omega arith)) (rest (k - 1) w (omega (arith, bound-same s e)) (omega arith)))
+        (λ w. later s e (rw i (omega arith)) (rest (k - 1) w (omega (arith, bound-same s e)) (omega arith)))
         next
 
     -- any other event leaves p as it was
-    wait-wins : stepOf p e ≡ false → k ≤ stepsGiven p fs → HoldsWithin k s p (e ∷ fs)
+    wait-wins : stepOf p e ≡ false → k ≤ stepsGiven p fs → HoldsWithin k (after s) p (e ∷ fs)
     wait-wins i given =
         let same : processAt t p ≡ processAt s p = claim-waits m st e i in
         let steps : processAt t p .steps ≡ processAt s p .steps = ap (λ (x : Process). x .steps) same in
-        later e (rw i (omega arith))
+        later s e (rw i (omega arith))
         (rest k (ap (λ (x : Process). x .stage) same ∙ st) (omega (arith, bound-same s e)) given)
 
 pub list-wins : (k : ℕ) (s : State) → Sound s → (p : ℕ) → p < s .processes → processAt s p .stage ≡ getname → (fs : List Event)
-    → height (s .leaves) + s .segments ≤ processAt s p .steps + k → k ≤ stepsGiven p fs → HoldsWithin k s p fs
+    → height (s .leaves) + s .segments ≤ processAt s p .steps + k → k ≤ stepsGiven p fs → HoldsWithin k (after s) p fs
 unfolding stepsGiven
 list-wins k s so p l st [] enough given = absurd (omega (arith, fewer-steps (mover so l) st))
 list-wins k s so p l st (e ∷ fs) enough given =
     go (stepOf p e) refl given
     (λ n st′ enough′ given′. list-wins n (eventDone s e .state) (event-sound s so e) p (still-known s e p l) st′ fs enough′ given′)
   where
-    go : (b : Bool) → stepOf p e ≡ b → k ≤ ind b + stepsGiven p fs → Rest s so p l st e fs → HoldsWithin k s p (e ∷ fs)
+    go : (b : Bool) → stepOf p e ≡ b → k ≤ ind b + stepsGiven p fs → Rest s so p l st e fs → HoldsWithin k (after s) p (e ∷ fs)
     go true i given rest = step-wins s so p l st e fs k enough rest i (omega arith)
     go false i given rest = wait-wins s so p l st e fs k enough rest i (omega arith)

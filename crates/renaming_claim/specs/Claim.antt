@@ -46,4 +46,4 @@ module _ (n l g b : ℕ) (stateAfter : List Event → State) where
     -- Whatever events follow, once a handset that is claiming after the list has been given h + g more turns, it held a pad
     -- directly after one of them.
     pub wins : (p : ℕ) → p < n → processAfter es p .stage ≡ getname → (fs : List Event) → height l + g ≤ stepsGiven p fs
-        → HoldsWithin (height l + g) (stateAfter es) p fs
+        → HoldsWithin (height l + g) (after (stateAfter es)) p fs

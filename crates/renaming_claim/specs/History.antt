@@ -7,7 +7,7 @@ use Prim.Native.Nat.{ℕ, suc, _+_, _<_}
 use lib.Dec.{eqb}
 use lib.ListN.{length, getD, take}
 use Rattle.machine.specs.Below.{indicator}
-use Rattle.machine.specs.Lists.{Event, eventDone, after}
+use Rattle.machine.specs.Lists.{Event, eventDone}
 use Rattle.machine.specs.Stage.{getname, working}
 use Rattle.machine.specs.State.{processAt}
 use Rattle.machine.specs.declared.State.{State}
@@ -34,10 +34,11 @@ unfoldable pub stepsGiven : ℕ → List Event → ℕ
 stepsGiven p [] = 0
 stepsGiven p (e ∷ es) = indicator (stepOf p e) + stepsGiven p es
 
--- event number `place` of the list is one of the first k steps given to p, and directly after it p holds a name
-pub record HoldsWithin (k : ℕ) (s : State) (p : ℕ) (es : List Event) : Type 0 where
+-- event number `place` of the list is one of the first k steps given to p, and directly after it p holds a name; said of what gives
+-- the state after each prefix of the list: the machine, or calls
+pub record HoldsWithin (k : ℕ) (stateAfter : List Event → State) (p : ℕ) (es : List Event) : Type 0 where
   pub place : ℕ
   pub inside : place < length es
   pub isStep : stepOf p (getD es place (record { kind = 3; process = 0 })) ≡ true
   pub early : stepsGiven p (take place es) < k
-  pub holds : processAt (after s (take (suc place) es)) p .stage ≡ working
+  pub holds : processAt (stateAfter (take (suc place) es)) p .stage ≡ working

@@ -6,7 +6,7 @@ use mathlib.Core.List.{List}
 use Prim.Native.Nat.{ℕ, _+_, _≤_, _<_}
 use lib.ListN.{take}
 use Rattle.machine.specs.Admitted.{admitted}
-use Rattle.machine.specs.Lists.{Event}
+use Rattle.machine.specs.Lists.{Event, after}
 use Rattle.machine.specs.Setup.{names, height}
 use Rattle.machine.specs.Stage.{getname, working, exhausted}
 use Rattle.machine.specs.State.{processAt, fresh}
@@ -36,6 +36,6 @@ module _ (n l g b : ℕ) (f f′ : List Event → State) (es : List Event) (e : 
         steps-most = λ p k. across (λ s. processAt s p .stage ≡ working → processAt s p .steps ≤ height l + g) (c .steps-most p k);
         wins = λ p k.
             across
-            (λ s. processAt s p .stage ≡ getname → (fs : List Event) → height l + g ≤ stepsGiven p fs → HoldsWithin (height l + g) s p fs)
+            (λ s. processAt s p .stage ≡ getname → (fs : List Event) → height l + g ≤ stepsGiven p fs → HoldsWithin (height l + g) (after s) p fs)
             (c .wins p k);
       }

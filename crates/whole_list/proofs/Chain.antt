@@ -1,57 +1,58 @@
--- A chain of calls is the machine's run: each call's contract gives the machine's event, and the rest follows by induction on the
--- chain. Assumes nothing.
-use mathlib.Core.Path.{_≡_, refl, ap, _∙_}
-use mathlib.Core.List.{List, _∷_, _++_, map}
-use Prim.Native.Nat.{ℕ, zero, suc}
-use lib.ListN.{length, take}
-use Rattle.machine.specs.Lists.{Event, eventDone, after, answers, entryOf, journal, entryBytes}
-use Rattle.machine.specs.State.{processAt}
+-- A chain of calls is the machine's run: each call's contract gives the machine's event or its list, and the rest follows by induction
+-- on the chain. Chains join. Assumes nothing.
+use mathlib.Core.Path.{_≡_, refl, sym, ap, subst, _∙_}
+use mathlib.Core.Logic.{_≢_}
+use mathlib.Core.List.{List, [], _∷_, _++_, append-assoc}
+use denote.Ref.{now}
+use Rattle.machine.specs.Lists.{Event, eventDone, after}
 use Rattle.machine.specs.declared.Done.{Done}
 use Rattle.machine.specs.declared.State.{State}
-use Rattle.whole_list.specs.Whole.{ownState}
-use Rattle.whole_list.specs.Calls.{Called, by-event, by-request, by-step, by-release, Calls, none, call, stateAt, entriesOf}
+use Rattle.machine.proofs.Laws.Parts.{after-parts}
+use Rattle.whole_list.specs.Calls.{Called, by-event, by-request, by-step, by-release, ListCall, listed, resultsOf, Calls, none, call, list, refused-list}
+use Rattle.whole_list.proofs.Accepted.{run-state, run-kept}
+use Rattle.whole_list.proofs.Results.{results-parts}
 
-pub called-is : {s : State} {e : Event} {d : Done} → Called s e d → d ≡ eventDone s e
+called-is : {s : State} {e : Event} {d : Done} → Called s e d → d ≡ eventDone s e
 called-is (by-event kind p d l) = l
 called-is (by-request p d l) = l
 called-is (by-step p d l) = l
 called-is (by-release p d l) = l
 
-pub answers-are : {s : State} {es : List Event} {ds : List Done} → Calls s es ds → map (λ (d : Done). d .answer) ds ≡ answers s es
-unfolding answers
-answers-are (none s) = refl
-answers-are (call s e d es ds c rest) = rw (← called-is c) (ap (λ (l : List ℕ). d .answer ∷ l) (answers-are rest))
+module _ {s : State} {d : Done} (c : ListCall s d) where
+  pub list-state : d .answer ≡ 0 → d .state ≡ after s (listed c)
+  list-state accepted =
+      let is = c .ran .0 in
+      ap (λ (x : Done). x .state) is ∙ run-state s (now (c .bytes)) (now (c .journal)) (sym (ap (λ (x : Done). x .answer) is) ∙ accepted)
 
--- past its end a chain keeps its last state, as a list does
-pub states-are : {s : State} {es : List Event} {ds : List Done} → Calls s es ds → (i : ℕ) → stateAt s ds i ≡ after s (take i es)
+  pub list-kept : d .answer ≢ 0 → d .state ≡ s
+  list-kept refused =
+      let is = c .ran .0 in
+      ap (λ (x : Done). x .state) is ∙ run-kept s (now (c .bytes)) (now (c .journal)) (λ e. refused (ap (λ (x : Done). x .answer) is ∙ e))
+
+-- the results of a chain are those of its events, and it ends in the machine's state
+pub results-are : {s t : State} {es : List Event} {ds : List Done} → Calls s es ds t → ds ≡ resultsOf s es
+unfolding resultsOf
+results-are (none s) = refl
+results-are (call s t e d es ds c rest) =
+    ap (λ (l : List Done). d ∷ l) (results-are rest) ∙ ap (λ (x : Done). x ∷ resultsOf (x .state) es) (called-is c)
+results-are (list s t d es ds c accepted rest) =
+    ap (λ (l : List Done). resultsOf s (listed c) ++ l) (results-are rest ∙ ap (λ (x : State). resultsOf x es) (list-state c accepted))
+    ∙ sym (results-parts s (listed c) es)
+results-are (refused-list s t d es ds c refused rest) = results-are rest ∙ ap (λ (x : State). resultsOf x es) (list-kept c refused)
+
+pub end-is : {s t : State} {es : List Event} {ds : List Done} → Calls s es ds t → t ≡ after s es
 unfolding after
-states-are c zero = refl
-states-are (none s) (suc i) = refl
-states-are (call s e d es ds c rest) (suc i) = states-are rest i ∙ ap (λ (x : Done). after (x .state) (take i es)) (called-is c)
+end-is (none s) = refl
+end-is (call s t e d es ds c rest) = end-is rest ∙ ap (λ (x : Done). after (x .state) es) (called-is c)
+end-is (list s t d es ds c accepted rest) =
+    end-is rest ∙ ap (λ (x : State). after x es) (list-state c accepted) ∙ sym (after-parts s (listed c) es)
+end-is (refused-list s t d es ds c refused rest) = end-is rest ∙ ap (λ (x : State). after x es) (list-kept c refused)
 
--- the same at a prefix's length, for every prefix of a prefix
-pub own-states-are : {s : State} {es : List Event} {ds : List Done} → Calls s es ds → (i j : ℕ)
-    → ownState s ds (take j (take i es)) ≡ after s (take j (take i es))
-unfolding after
-own-states-are c zero zero = refl
-own-states-are c zero (suc j) = refl
-own-states-are c (suc i) zero = refl
-own-states-are (none s) (suc i) (suc j) = refl
-own-states-are (call s e d es ds c rest) (suc i) (suc j) =
-    own-states-are rest i j ∙ ap (λ (x : Done). after (x .state) (take j (take i es))) (called-is c)
-
-pub last-state-is : {s : State} {es : List Event} {ds : List Done} → Calls s es ds → stateAt s ds (length ds) ≡ after s es
-unfolding after
-last-state-is (none s) = refl
-last-state-is (call s e d es ds c rest) = last-state-is rest ∙ ap (λ (x : Done). after (x .state) es) (called-is c)
-
-entry-is : (s : State) (e : Event) (d : Done) → d ≡ eventDone s e → entryBytes (d .answer) (processAt (d .state) (e .process)) ≡ entryOf s e
-unfolding entryOf
-entry-is s e d k = rw k
-
-pub entries-are : {s : State} {es : List Event} {ds : List Done} → Calls s es ds → entriesOf es ds ≡ journal s es
-unfolding journal
-entries-are (none s) = refl
-entries-are (call s e d es ds c rest) =
-    ap (λ (l : List ℕ). l ++ entriesOf es ds) (entry-is s e d (called-is c))
-    ∙ ap (λ (l : List ℕ). entryOf s e ++ l) (entries-are rest ∙ ap (λ (x : Done). journal (x .state) es) (called-is c))
+pub join : {s t u : State} {es fs : List Event} {ds gs : List Done} → Calls s es ds t → Calls t fs gs u → Calls s (es ++ fs) (ds ++ gs) u
+join (none s) more = more
+join (call s t e d es ds c rest) more = call s _ e d _ _ c (join rest more)
+join {u = u} {fs = fs} {gs = gs} (list s t d es ds c accepted rest) more =
+    subst (λ (xs : List Event). Calls s xs ((resultsOf s (listed c) ++ ds) ++ gs) u) (sym (append-assoc (listed c) es fs))
+    (subst (λ (xs : List Done). Calls s (listed c ++ (es ++ fs)) xs u) (sym (append-assoc (resultsOf s (listed c)) ds gs))
+    (list s u d (es ++ fs) (ds ++ gs) c accepted (join rest more)))
+join (refused-list s t d es ds c refused rest) more = refused-list s _ d _ _ c refused (join rest more)

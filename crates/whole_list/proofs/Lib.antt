@@ -1,5 +1,6 @@
 -- The proofs: each chain of calls is the machine's run.
 pub mod Accepted
+pub mod Results
 pub mod Chain
 pub mod Agrees
 pub mod Theorem

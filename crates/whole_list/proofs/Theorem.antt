@@ -1,56 +1,107 @@
 -- Demand 3 of the calls: from an accepted setup's own state every chain of calls is the machine's run, of which the claim is proved;
--- and a list call does what the chain of its events does. Assumes nothing.
-use mathlib.Core.Path.{_≡_, refl, sym, ap, subst, _∙_}
-use mathlib.Core.List.{List, [], _∷_, _++_}
-use Prim.Native.Nat.{ℕ}
+-- a list call that is accepted does what the chain of its events does, and one that is refused does nothing. Assumes nothing.
+use mathlib.Core.Path.{_≡_, sym, ap, subst, _∙_}
+use mathlib.Core.List.{List, [], _++_, map, append-nil}
+use Prim.Native.Nat.{ℕ, suc, _+_, _≤_, _<_}
 use lib.ListN.{length, take, drop}
-use contract.Lifetimes.{Lfts}
-use denote.Ref.{RefT, now}
-use Rattle.machine.specs.Lists.{Event, eventsOf, journalLength}
-use Rattle.machine.specs.State.{fresh}
+use lib.Seq.{take-length}
+use denote.Ref.{now}
+use Rattle.machine.specs.Lists.{Event, journalLength, after, answers, run}
+use Rattle.machine.specs.Setup.{height}
+use Rattle.machine.specs.Stage.{getname, working}
+use Rattle.machine.specs.State.{processAt, fresh}
 use Rattle.machine.specs.declared.Done.{Done}
 use Rattle.machine.specs.declared.State.{State}
 use Rattle.renaming_claim.specs.Claim.{Claim, afterList}
+use Rattle.renaming_claim.specs.History.{stepsGiven, HoldsWithin}
 use Rattle.renaming_claim.proofs.Theorem as claim
-use Rattle.whole_list.specs.Calls.{SetUp, Calls, stateAt, Ran}
+use Rattle.whole_list.specs.Calls.{SetUp, ListCall, listed, resultsOf, Calls, none, list, stateAt, entriesOf}
 use Rattle.whole_list.specs.Whole.{Whole, Listed, ownState}
-use Rattle.whole_list.proofs.Accepted.{passed, is-fresh, run-state, run-written}
+use Rattle.whole_list.proofs.Accepted.{passed, is-fresh, run-written, run-untouched}
 use Rattle.whole_list.proofs.Agrees.{agrees}
-use Rattle.whole_list.proofs.Chain.{answers-are, states-are, own-states-are, last-state-is, entries-are}
+use Rattle.whole_list.proofs.Chain.{results-are, end-is, list-state, list-kept}
+use Rattle.whole_list.proofs.Results.{results-answers, results-states, results-entries, results-own}
 
-take-all : {A : Type 0} (l : List A) → take (length l) l ≡ l
-take-all [] = refl
-take-all {A = A} (x ∷ l) = ap (λ (r : List A). x ∷ r) (take-all l)
+-- a chain gives after each prefix of its events the machine's state
+own-is : {s t : State} {es : List Event} {ds : List Done} → Calls s es ds t → (i j : ℕ)
+    → ownState s ds (take j (take i es)) ≡ after s (take j (take i es))
+own-is {s = s} {es = es} calls i j =
+    ap (λ (ds : List Done). ownState s ds (take j (take i es))) (results-are calls) ∙ results-own s es i j
+
+-- what holds within a list of the machine's states holds of those that a chain of its events gives
+held-own : {k p : ℕ} {s t : State} {es : List Event} {ds : List Done} → Calls s es ds t → HoldsWithin k (after s) p es
+    → HoldsWithin k (ownState s ds) p es
+held-own {p = p} {s = s} {es = es} {ds = ds} calls w =
+    let at : List Event = take (suc (w .place)) es in
+    record {
+      place = w .place;
+      inside = w .inside;
+      isStep = w .isStep;
+      early = w .early;
+      holds = subst (λ (x : State). processAt x p .stage ≡ working)
+          (sym (subst (λ (fs : List Event). ownState s ds fs ≡ after s fs) (take-length at) (own-is calls (suc (w .place)) (length at))))
+          (w .holds);
+    }
 
 module _ (n l g b : ℕ) (d₀ : Done) (set : SetUp n l g b d₀) (accepted : d₀ .answer ≡ 0) where
-  pub whole-list : (es : List Event) (ds : List Done) → Calls (d₀ .state) es ds → Whole n l g b (d₀ .state) es ds
-  whole-list es ds calls =
-      let c : Calls (fresh n l g b) es ds = subst (λ (s : State). Calls s es ds) (is-fresh n l g b d₀ set accepted) calls in
+  pub whole-list : (es : List Event) (ds : List Done) (t : State) → Calls (d₀ .state) es ds t → Whole n l g b (d₀ .state) es ds t
+  whole-list es ds t calls =
       record {
-        answered = answers-are c;
-        states = λ i. ap (λ (s : State). stateAt s ds i) (is-fresh n l g b d₀ set accepted) ∙ states-are c i;
-        claims = λ i. owned i (own c i);
+        answered = ap (map (λ (d : Done). d .answer)) (results-are calls) ∙ results-answers s es ∙ ap (λ (x : State). answers x es) start;
+        states = λ i.
+            ap (λ (rs : List Done). stateAt s rs i) (results-are calls)
+            ∙ results-states s es i
+            ∙ ap (λ (x : State). after x (take i es)) start;
+        last = ended;
+        claims = λ i. owned i (λ j. ap (λ (x : State). after x (take j (take i es))) (sym start) ∙ sym (own-is calls i j));
+        wins = λ p k st fs gs u more given.
+            held-own more
+            (subst (λ (x : State). HoldsWithin (height l + g) (after x) p fs) (sym ended)
+            (holds-after p k (subst (λ (x : State). processAt x p .stage ≡ getname) ended st) fs given));
       }
     where
-      -- the calls' own states after the prefixes of a prefix are the machine's
-      own : Calls (fresh n l g b) es ds → (i j : ℕ) → afterList n l g b (take j (take i es)) ≡ ownState (d₀ .state) ds (take j (take i es))
-      own c i j =
-          sym (ap (λ (s : State). ownState s ds (take j (take i es))) (is-fresh n l g b d₀ set accepted) ∙ own-states-are c i j)
+      s : State
+      s = d₀ .state
 
-      owned : (i : ℕ) → ((j : ℕ) → afterList n l g b (take j (take i es)) ≡ ownState (d₀ .state) ds (take j (take i es)))
-          → Claim n l g b (ownState (d₀ .state) ds) (take i es)
+      start : s ≡ fresh n l g b
+      start = is-fresh n l g b d₀ set accepted
+
+      ended : t ≡ afterList n l g b es
+      ended = end-is calls ∙ ap (λ (x : State). after x es) start
+
+      holds-after : (p : ℕ) → p < n → processAt (afterList n l g b es) p .stage ≡ getname → (fs : List Event) → height l + g ≤ stepsGiven p fs
+          → HoldsWithin (height l + g) (after (afterList n l g b es)) p fs
+      holds-after = claim.theorem n l g b (passed n l g b d₀ set accepted) es .wins
+
+      owned : (i : ℕ) → ((j : ℕ) → afterList n l g b (take j (take i es)) ≡ ownState s ds (take j (take i es)))
+          → Claim n l g b (ownState s ds) (take i es)
       owned i same =
-          agrees n l g b (afterList n l g b) (ownState (d₀ .state) ds) (take i es)
-          (subst (λ (fs : List Event). afterList n l g b fs ≡ ownState (d₀ .state) ds fs) (take-all (take i es)) (same (length (take i es))))
+          agrees n l g b (afterList n l g b) (ownState s ds) (take i es)
+          (subst (λ (fs : List Event). afterList n l g b fs ≡ ownState s ds fs) (take-length (take i es)) (same (length (take i es))))
           same
           (claim.theorem n l g b (passed n l g b d₀ set accepted) (take i es))
 
--- a list call that is not refused
-pub list-call : (κs : Lfts 2) (s : State) (bytes lent bytes′ lent′ : RefT (List ℕ)) (d : Done) → Ran κs s bytes lent d bytes′ lent′ → d .answer ≡ 0
-    → (ds : List Done) → Calls s (eventsOf (now bytes)) ds → Listed s (now bytes) (now lent) ds d (now lent′)
-list-call κs s bytes lent bytes′ lent′ d ran accepted ds calls =
-    let zero = sym (ap (λ (x : Done). x .answer) (ran .0)) ∙ accepted in
+  -- one list call on the setup's own state, as a chain
+  pub one-list : (d : Done) (c : ListCall (d₀ .state) d) → d .answer ≡ 0
+      → Whole n l g b (d₀ .state) (listed c) (resultsOf (d₀ .state) (listed c)) (d .state)
+  one-list d c ran =
+      whole-list (listed c) (resultsOf (d₀ .state) (listed c)) (d .state)
+      (subst (λ (es : List Event). Calls (d₀ .state) es (resultsOf (d₀ .state) (listed c)) (d .state)) (append-nil (listed c))
+      (subst (λ (ds : List Done). Calls (d₀ .state) (listed c ++ []) ds (d .state)) (append-nil (resultsOf (d₀ .state) (listed c)))
+      (list (d₀ .state) (d .state) d [] [] c ran (none (d .state)))))
+
+pub list-call : (s : State) (d : Done) (c : ListCall s d) → Listed s d c
+list-call s d c =
     record {
-      state = ap (λ (x : Done). x .state) (ran .0) ∙ run-state s (now bytes) (now lent) zero ∙ sym (last-state-is calls);
-      entries = ran .1 ∙ run-written s (now bytes) (now lent) zero ∙ ap (λ (j : List ℕ). j ++ drop (journalLength (now bytes)) (now lent)) (sym (entries-are calls));
+      state = λ accepted ds t calls. list-state c accepted ∙ sym (end-is calls);
+      entries = λ accepted ds t calls.
+          c .ran .1
+          ∙ run-written s (now (c .bytes)) (now (c .journal)) (sym same-answer ∙ accepted)
+          ∙ ap (λ (j : List ℕ). j ++ drop (journalLength (now (c .bytes))) (now (c .journal)))
+          (sym (ap (entriesOf (listed c)) (results-are calls) ∙ results-entries s (listed c)));
+      kept = list-kept c;
+      untouched = λ refused. c .ran .1 ∙ run-untouched s (now (c .bytes)) (now (c .journal)) (λ e. refused (same-answer ∙ e));
     }
+  where
+    same-answer : d .answer ≡ run s (now (c .bytes)) (now (c .journal)) .answer
+    same-answer = ap (λ (x : Done). x .answer) (c .ran .0)

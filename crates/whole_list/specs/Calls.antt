@@ -1,10 +1,12 @@
 -- Chains of calls. A call is known by what its own contract lets a caller learn (the generated Reads), and by nothing else; each
 -- call of a chain is lent the state that the call before it gave, refused or not.
+use mathlib.Core.Path.{_≡_}
+use mathlib.Core.Logic.{_≢_}
 use mathlib.Core.List.{List, [], _∷_, _++_}
 use Prim.Native.Nat.{ℕ, zero, suc}
 use contract.Lifetimes.{Lfts}
-use denote.Ref.{RefT}
-use Rattle.machine.specs.Lists.{Event, entryBytes}
+use denote.Ref.{RefT, now}
+use Rattle.machine.specs.Lists.{Event, eventDone, eventsOf, entryBytes}
 use Rattle.machine.specs.State.{processAt}
 use Rattle.machine.specs.declared.Done.{Done}
 use Rattle.machine.specs.declared.State.{State}
@@ -29,12 +31,41 @@ pub data Called (s : State) : Event → Done → Type 0 where
   by-step : (p : ℕ) (d : Done) → step-reads.Learnt tt (s, (p, tt)) d (s, (p, tt)) → Called s (eventOf 1 p) d
   by-release : (p : ℕ) (d : Done) → release-reads.Learnt tt (s, (p, tt)) d (s, (p, tt)) → Called s (eventOf 2 p) d
 
--- from s on, calls of the events gave the results, one each
-pub data Calls : State → List Event → List Done → Type 0 where
-  none : (s : State) → Calls s [] []
-  call : (s : State) (e : Event) (d : Done) (es : List Event) (ds : List Done) → Called s e d → Calls (d .state) es ds → Calls s (e ∷ es) (d ∷ ds)
+-- `run(s, bytes, journal)` gave d and left bytes′ and journal′
+abbrev pub Ran : Lfts 2 → State → RefT (List ℕ) → RefT (List ℕ) → Done → RefT (List ℕ) → RefT (List ℕ) → Type 0
+Ran κs s bytes journal d bytes′ journal′ = run-reads.Learnt κs (s, (bytes, (journal, tt))) d (s, (bytes′, (journal′, tt)))
 
--- the state after i calls, from s on
+-- one call of a list: the references that it was lent, and what it gave
+pub record ListCall (s : State) (d : Done) : Type 0 where
+  pub lifetimes : Lfts 2
+  pub bytes : RefT (List ℕ)
+  pub bytes′ : RefT (List ℕ)
+  pub journal : RefT (List ℕ)
+  pub journal′ : RefT (List ℕ)
+  pub ran : Ran lifetimes s bytes journal d bytes′ journal′
+
+-- the events of its list
+abbrev pub listed : {s : State} {d : Done} → ListCall s d → List Event
+listed c = eventsOf (now (c .bytes))
+
+-- what the events of a list give one after another, from s on. A list call gives the last state and the journal; the states between
+-- are in no caller's hands, so this names them.
+unfoldable pub resultsOf : State → List Event → List Done
+resultsOf s [] = []
+resultsOf s (e ∷ es) = eventDone s e ∷ resultsOf (eventDone s e .state) es
+
+-- From s on, calls of the events gave the results, one for each event, and at the end the state t. A list that is accepted is a
+-- stretch of the chain, an event for each two bytes; a list that is refused adds no event.
+pub data Calls : State → List Event → List Done → State → Type 0 where
+  none : (s : State) → Calls s [] [] s
+  call : (s t : State) (e : Event) (d : Done) (es : List Event) (ds : List Done)
+      → Called s e d → Calls (d .state) es ds t → Calls s (e ∷ es) (d ∷ ds) t
+  list : (s t : State) (d : Done) (es : List Event) (ds : List Done)
+      → (c : ListCall s d) → d .answer ≡ 0 → Calls (d .state) es ds t → Calls s (listed c ++ es) (resultsOf s (listed c) ++ ds) t
+  refused-list : (s t : State) (d : Done) (es : List Event) (ds : List Done)
+      → ListCall s d → d .answer ≢ 0 → Calls (d .state) es ds t → Calls s es ds t
+
+-- the state after i events, from s on
 abbrev pub stateAt : State → List Done → ℕ → State
 stateAt s ds zero = s
 stateAt s [] (suc i) = s
@@ -45,7 +76,3 @@ abbrev pub entriesOf : List Event → List Done → List ℕ
 entriesOf (e ∷ es) (d ∷ ds) = entryBytes (d .answer) (processAt (d .state) (e .process)) ++ entriesOf es ds
 entriesOf [] ds = []
 entriesOf (e ∷ es) [] = []
-
--- `run(s, bytes, journal)` gave d
-abbrev pub Ran : Lfts 2 → State → RefT (List ℕ) → RefT (List ℕ) → Done → RefT (List ℕ) → RefT (List ℕ) → Type 0
-Ran κs s bytes journal d bytes′ journal′ = run-reads.Learnt κs (s, (bytes, (journal, tt))) d (s, (bytes′, (journal′, tt)))

@@ -1,28 +1,43 @@
 -- What holds of every chain of calls from an accepted setup, and of one call of a list.
 use mathlib.Core.Path.{_≡_}
+use mathlib.Core.Logic.{_≢_}
 use mathlib.Core.List.{List, _++_, map}
-use Prim.Native.Nat.{ℕ}
+use Prim.Native.Nat.{ℕ, _+_, _≤_, _<_}
 use lib.ListN.{length, take, drop}
-use Rattle.machine.specs.Lists.{Event, answers, eventsOf, journalLength}
-use Rattle.machine.specs.State.{fresh}
+use denote.Ref.{now}
+use Rattle.machine.specs.Lists.{Event, answers, journalLength}
+use Rattle.machine.specs.Setup.{height}
+use Rattle.machine.specs.Stage.{getname}
+use Rattle.machine.specs.State.{processAt, fresh}
 use Rattle.machine.specs.declared.Done.{Done}
 use Rattle.machine.specs.declared.State.{State}
 use Rattle.renaming_claim.specs.Claim.{Claim, afterList}
-use Rattle.whole_list.specs.Calls.{stateAt, entriesOf}
+use Rattle.renaming_claim.specs.History.{stepsGiven, HoldsWithin}
+use Rattle.whole_list.specs.Calls.{ListCall, listed, Calls, stateAt, entriesOf}
 
 -- the state that the calls gave after a prefix of their events
 abbrev pub ownState : State → List Done → List Event → State
 ownState s ds es = stateAt s ds (length es)
 
--- A setup of four numbers gave a state s, calls of the events followed, and gave the results.
-pub record Whole (n l g b : ℕ) (s : State) (es : List Event) (ds : List Done) : Type 0 where
-  -- Each event's answer, and the state after each, are the machine's, fed the four numbers and the events alone.
+-- A setup of four numbers gave a state s, calls of the events followed, single ones and lists, and gave the results and the state t.
+pub record Whole (n l g b : ℕ) (s : State) (es : List Event) (ds : List Done) (t : State) : Type 0 where
+  -- Each event's answer, the state after each and the last state are the machine's, fed the four numbers and the events alone.
   pub answered : map (λ (d : Done). d .answer) ds ≡ answers (fresh n l g b) es
   pub states : (i : ℕ) → stateAt s ds i ≡ afterList n l g b (take i es)
-  -- The claim holds of the calls' own states, after every call.
+  pub last : t ≡ afterList n l g b es
+  -- The claim holds of the calls' own states, after every event.
   pub claims : (i : ℕ) → Claim n l g b (ownState s ds) (take i es)
+  -- Whatever calls follow, once a process that is in getname in the state t has been given h + g more steps, it held a name directly
+  -- after one of them, in the state that the calls gave there.
+  pub wins : (p : ℕ) → p < n → processAt t p .stage ≡ getname → (fs : List Event) (gs : List Done) (u : State) → Calls t fs gs u
+      → height l + g ≤ stepsGiven p fs → HoldsWithin (height l + g) (ownState t gs) p fs
 
--- A list of bytes that is not refused gives what calls of its events give: their last state, and in the journal each one's entry.
-pub record Listed (s : State) (bytes lent : List ℕ) (ds : List Done) (d : Done) (journal : List ℕ) : Type 0 where
-  pub state : d .state ≡ stateAt s ds (length ds)
-  pub entries : journal ≡ entriesOf (eventsOf bytes) ds ++ drop (journalLength bytes) lent
+-- One call of a list of bytes, which was lent s.
+pub record Listed (s : State) (d : Done) (c : ListCall s d) : Type 0 where
+  -- A list that is accepted gives what calls of its events give: their last state, and in the journal each one's entry.
+  pub state : d .answer ≡ 0 → (ds : List Done) (t : State) → Calls s (listed c) ds t → d .state ≡ t
+  pub entries : d .answer ≡ 0 → (ds : List Done) (t : State) → Calls s (listed c) ds t
+      → now (c .journal′) ≡ entriesOf (listed c) ds ++ drop (journalLength (now (c .bytes))) (now (c .journal))
+  -- A list that is refused gives the state that it was lent, and writes nothing.
+  pub kept : d .answer ≢ 0 → d .state ≡ s
+  pub untouched : d .answer ≢ 0 → now (c .journal′) ≡ now (c .journal)
