@@ -1,4 +1,4 @@
--- The laws of the definitions, one field each, and `laws`, which proves them all. Each is proved in the file that its line names.
+-- `laws`: every law of specs/Laws.antt holds. Each is proved in the file from which its line is imported.
 -- Assumes nothing.
 pub mod Setup
 pub mod Fresh
@@ -8,97 +8,21 @@ pub mod Unread
 pub mod Room
 pub mod Steps
 pub mod Parts
-use mathlib.Core.Path.{_≡_}
-use mathlib.Core.Logic.{_≢_}
-use mathlib.Core.Bool.{true, false}
-use mathlib.Core.List.{List, _++_}
-use Prim.Native.Nat.{ℕ, suc, _+_, _*_, _%_, _^_, _≤_, _<_}
-use lib.ListN.{length, getD}
-use Rattle.machine.specs.Event.{event}
-use Rattle.machine.specs.Gate.{headGone, enter, await}
-use Rattle.machine.specs.Getname.{getnameStep}
-use Rattle.machine.specs.Lists.{Event, eventsOf, after, answers, journal, runJournal}
-use Rattle.machine.specs.Operations.{bit, firstZero, clrBit}
-use Rattle.machine.specs.Putname.{putnameStep}
-use Rattle.machine.specs.Range.{inRange}
-use Rattle.machine.specs.Setup.{isLeaves, setupAnswer, height}
-use Rattle.machine.specs.State.{done, depth, setupOf, processAt, counterAt, wordAt, fresh, blank, setup}
-use Rattle.machine.specs.declared.State.{State}
+use Rattle.machine.specs.Laws.{Laws}
 use Rattle.machine.proofs.Facts.Leaves.{height-is, depth-root, depth-left, depth-right}
 use Rattle.machine.proofs.Facts.Words.{first-zero-clear, first-zero-below, set-bit-same, set-bit-other, clr-bit-same, clr-bit-other}
 use Rattle.machine.proofs.Laws.Answers.{accepted-in-range, refused-unchanged, state-refused, kind-refused, stranger-refused}
 use Rattle.machine.proofs.Laws.Fresh.{fresh-in-range, blank-out-of-range}
-use Rattle.machine.proofs.Laws.OnePlace.{Touches, event-touches, others-unchanged, setup-unchanged, unused-process, unused-counter, unused-word, sized-kept}
+use Rattle.machine.proofs.Laws.OnePlace.{event-touches, others-unchanged, setup-unchanged, unused-process, unused-counter, unused-word, sized-kept}
 use Rattle.machine.proofs.Laws.Parts.{after-parts, answers-parts, journal-parts, events-parts, journal-length, lent-length}
-use Rattle.machine.proofs.Laws.Room.{enterRoom, getnameRoom, putnameRoom}
 use Rattle.machine.proofs.Laws.Room.Gate.{enter-room, await-room}
 use Rattle.machine.proofs.Laws.Room.Getname.{getname-room}
 use Rattle.machine.proofs.Laws.Room.Putname.{putname-room}
 use Rattle.machine.proofs.Laws.Setup.{setup-answers, setup-refused, setup-accepted}
 use Rattle.machine.proofs.Laws.Steps.{steps-reset, head-leaves}
-use Rattle.machine.proofs.Laws.Unread.{Alike, Same, event-alike}
+use Rattle.machine.proofs.Laws.Unread.{event-alike}
 use Rattle.machine.proofs.Ranges.{ranges-of}
-use Rattle.machine.proofs.Sized.{Sized, fresh-sized}
-
-pub record Laws : Type 0 where
-  -- 2^h = L
-  pub height-power : (l : ℕ) → isLeaves l ≡ true → 2 ^ height l ≡ l
-  -- node 1 has depth 0; children 2v and 2v + 1 lie one level below node v
-  pub root-depth : depth 1 ≡ 0
-  pub left-depth : (v : ℕ) → 0 < v → v < 16 → depth (2 * v) ≡ depth v + 1
-  pub right-depth : (v : ℕ) → 0 < v → v < 16 → depth (2 * v + 1) ≡ depth v + 1
-  -- set_first_zero answers the index of a clear bit, and every bit below it is set
-  pub answer-clear : (b w : ℕ) → firstZero b w < b → bit w (firstZero b w) ≡ 0
-  pub answer-lowest : (b w i : ℕ) → i < firstZero b w → bit w i ≡ 1
-  -- it sets that bit and changes no other
-  pub set-same : (w i : ℕ) → bit w i ≡ 0 → bit (w + 2 ^ i) i ≡ 1
-  pub set-other : (w i j : ℕ) → bit w i ≡ 0 → j ≢ i → bit (w + 2 ^ i) j ≡ bit w j
-  -- clr_bit clears its bit and changes no other
-  pub clr-same : (w i : ℕ) → bit (clrBit w i) i ≡ 0
-  pub clr-other : (w i j : ℕ) → j ≢ i → bit (clrBit w i) j ≡ bit w j
-  -- a setup answers 0 or its refusal's number; it gives the fresh state or, refused, the blank one
-  pub answers-0-to-5 : (n l g b : ℕ) → setup n l g b .answer ≡ setupAnswer n l g b
-  pub accepted-setup : (n l g b : ℕ) → setupAnswer n l g b ≡ 0 → setup n l g b ≡ done 0 (fresh n l g b)
-  pub refused-setup : (n l g b : ℕ) → setupAnswer n l g b ≢ 0 → setup n l g b ≡ done (setupAnswer n l g b) blank
-  -- the fresh state of every accepted setup is in range, its arrays of their lengths; the blank state is not in range
-  pub fresh-state : (n l g b : ℕ) → setupAnswer n l g b ≡ 0 → inRange (fresh n l g b) ≡ true
-  pub fresh-lengths : (n l g b : ℕ) → Sized (fresh n l g b)
-  pub blank-state : inRange blank ≡ false
-  -- an accepted event keeps a state in range; a refused one keeps the state itself; no event changes a length
-  pub accepted : (s : State) (kind p : ℕ) → event s kind p .answer ≡ 0 → inRange (event s kind p .state) ≡ true
-  pub refused : (s : State) (kind p : ℕ) → event s kind p .answer ≢ 0 → event s kind p .state ≡ s
-  pub lengths : (s : State) (kind p : ℕ) → Sized s → Sized (event s kind p .state)
-  -- 15 for the state, 12, 6, in that order
-  pub state-15 : (s : State) (kind p : ℕ) → inRange s ≡ false → event s kind p ≡ done 15 s
-  pub kind-12 : (s : State) (kind p : ℕ) → inRange s ≡ true → 2 < kind → event s kind p ≡ done 12 s
-  pub stranger-6 : (s : State) (kind p : ℕ) → inRange s ≡ true → kind ≤ 2 → s .processes ≤ p → event s kind p ≡ done 6 s
-  -- an event touches its own process's record and at most one shared place
-  pub one-place : (s : State) (kind p : ℕ) → Touches s p (event s kind p .state)
-  -- so it changes no other process's record, no number of the setup, and no place that N, L and g leave unused
-  pub others : (s : State) (kind p q : ℕ) → q ≢ p → processAt (event s kind p .state) q ≡ processAt s q
-  pub setup-kept : (s : State) (kind p : ℕ) → setupOf (event s kind p .state) ≡ setupOf s
-  pub unused-processes : (s : State) (kind p q : ℕ) → s .processes ≤ q → processAt (event s kind p .state) q ≡ processAt s q
-  pub unused-counters : (s : State) (kind p v : ℕ) → (0 < v → v < s .leaves → ⊥)
-      → counterAt (event s kind p .state) v ≡ counterAt s v
-  pub unused-words : (s : State) (kind p r : ℕ) → s .leaves * s .segments ≤ r → wordAt (event s kind p .state) r ≡ wordAt s r
-  -- nor is such a place read: two states that differ there alone get one answer, and differ there alone afterwards
-  pub unread : {s t : State} → Alike s t → (kind p : ℕ) → Same (event s kind p) (event t kind p)
-  -- an accepted request counts steps from 0 again; the queue's head leaves and the rest move up
-  pub request-resets : (s : State) (p : ℕ) → Sized s → event s 0 p .answer ≡ 0 → processAt (event s 0 p .state) p .steps ≡ 0
-  pub head-first : (s : State) (i : ℕ) → 0 < s .queued → getD (headGone s .queue) i 0 ≡ getD (s .queue) (suc i) 0
-  -- a turn would leave a range where the gate word, the queue, the steps or a counter has no room, and nowhere else
-  pub enter-15 : (s : State) (p : ℕ) → inRange s ≡ true → p < s .processes → inRange (enter s p) ≡ enterRoom s
-  pub await-15 : (s : State) (p : ℕ) → inRange s ≡ true → p < s .processes → inRange (await s p) ≡ true
-  pub getname-15 : (s : State) (p : ℕ) → Sized s → inRange s ≡ true → p < s .processes → inRange (getnameStep s p) ≡ getnameRoom s p
-  pub putname-15 : (s : State) (p : ℕ) → Sized s → inRange s ≡ true → p < s .processes → inRange (putnameStep s p) ≡ putnameRoom s p
-  -- running a list is running its parts in turn, and an even list of bytes is the events of its parts
-  pub parts : (s : State) (es fs : List Event) → after s (es ++ fs) ≡ after (after s es) fs
-  pub parts-answers : (s : State) (es fs : List Event) → answers s (es ++ fs) ≡ answers s es ++ answers (after s es) fs
-  pub parts-journal : (s : State) (es fs : List Event) → journal s (es ++ fs) ≡ journal s es ++ journal (after s es) fs
-  pub parts-bytes : (bytes more : List ℕ) → length bytes % 2 ≡ 0 → eventsOf (bytes ++ more) ≡ eventsOf bytes ++ eventsOf more
-  -- the journal's length is four times the events, and a lent journal keeps its length
-  pub four-bytes : (s : State) (es : List Event) → length (journal s es) ≡ 4 * length es
-  pub lent-kept : (s : State) (bytes lent : List ℕ) → length (runJournal s bytes lent) ≡ length lent
+use Rattle.machine.proofs.Sized.{fresh-sized}
 
 pub laws : Laws
 laws =

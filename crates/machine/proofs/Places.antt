@@ -5,10 +5,10 @@ use Prim.Native.Nat.{ℕ, _+_, _*_, _-_, _/_, _≤_, _<_}
 use native.Mathlib.Nat.{div-lt-iff-lt-mul, mul-le-mul-left}
 use native.Mathlib.Omega.{arith}
 use lib.Arith.{digits-lt}
+use Rattle.machine.specs.Range.{ProcessRanges}
 use Rattle.machine.specs.Setup.{names}
 use Rattle.machine.specs.State.{none}
 use Rattle.machine.specs.declared.Process.{Process}
-use Rattle.machine.proofs.Ranges.{ProcessRanges}
 
 -- a segment has a name, so there are no more segments than names
 pub segments-64 : (l g b : ℕ) → 1 ≤ b → names l g b ≤ 64 → l * g ≤ 64

@@ -14,8 +14,7 @@ use borrow.Author.Tests.{leb-true, ltb-true, ltb-false, eqb-true, eqb-false, le-
 use Rattle.machine.specs.Below.{allBelow}
 use Rattle.machine.specs.Setup.{names, isLeaves, setupChecks, setupAnswer}
 use Rattle.machine.specs.State.{none, processAt, counterAt, wordAt, namesOf, freshCounter}
-use Rattle.machine.specs.Range.{setupInRange, gateInRange, placeInRange, counterInRange, wordInRange, processTests, processInRange, rangeTests, inRange}
-use Rattle.machine.specs.declared.Process.{Process}
+use Rattle.machine.specs.Range.{setupInRange, gateInRange, placeInRange, counterInRange, wordInRange, processTests, processInRange, rangeTests, inRange, ProcessRanges}
 use Rattle.machine.specs.declared.State.{State}
 use Rattle.machine.proofs.Facts.Tests.{by-cond, both, and-left, and-right, all-of}
 use Rattle.machine.proofs.Facts.Below.{all-in, all-at}
@@ -60,15 +59,6 @@ answer-of n l g b k =
       le-leb b 8 (k .b8),
       le-leb (names l g b) 64 (k .k64),
     )
-
--- a process's numbers, in the setup l, g, b
-pub record ProcessRanges (l g b : ℕ) (h : Process) : Type 0 where
-  pub stage : h .stage ≤ 6
-  pub node1 : 1 ≤ h .node
-  pub node : h .node < 2 * l
-  pub segment : h .segment < g
-  pub name : (h .name ≡ none → ⊥) → h .name < names l g b
-  pub steps : h .steps ≤ 255
 
 -- the queue: at most 64 numbers, each below n, and 0 past its end
 pub record QueueRanges (n queued : ℕ) (q : List ℕ) : Type 0 where

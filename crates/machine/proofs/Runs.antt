@@ -1,7 +1,4 @@
--- What computed runs are written with: the bytes of events, the lines of a journal, and one name that opens every definition.
--- Assumes nothing.
-use mathlib.Core.List.{List, [], _∷_}
-use Prim.Native.Nat.{ℕ}
+-- One name that opens every definition, so that a run computes. Assumes nothing.
 use Rattle.machine.specs.Below.{allBelow, sumBelow, tabulate}
 use Rattle.machine.specs.Setup.{isLeaves, setupAnswer, log2}
 use Rattle.machine.specs.Operations.{firstZero, setFirstZero, clrBit, boundedDecrement}
@@ -15,7 +12,7 @@ use Rattle.machine.specs.Admitted.{isAdmitted, admitted}
 use Rattle.machine.specs.Lists.{eventsOf, after, answers, entryOf, journal, run, runJournal}
 use Rattle.machine.specs.Reports.{positivePart, gateReport, statusAnswer, statusList}
 
--- `unfolding machine` opens every definition of specs/, so that a run computes
+-- `unfolding machine` opens every definition that a run goes through
 unfoldable pub machine : Unit {0}
 unfolding
     allBelow sumBelow tabulate isLeaves setupAnswer log2 firstZero setFirstZero clrBit boundedDecrement freshCounterAt
@@ -23,17 +20,3 @@ unfolding
     outcome descend probe getnameStep giveBack climb putnameStep request release guarded step event isAdmitted admitted eventsOf
     after answers entryOf journal run runJournal positivePart gateReport statusAnswer statusList
 machine = tt
-
--- the bytes of an ask, a turn and a finish
-abbrev pub ask : ℕ → List ℕ
-ask p = 0 ∷ p ∷ []
-
-abbrev pub turn : ℕ → List ℕ
-turn p = 1 ∷ p ∷ []
-
-abbrev pub finish : ℕ → List ℕ
-finish p = 2 ∷ p ∷ []
-
--- a journal entry: answer, stage, name, steps
-abbrev pub line : ℕ → ℕ → ℕ → ℕ → List ℕ
-line a stage name steps = a ∷ stage ∷ name ∷ steps ∷ []

@@ -7,15 +7,8 @@ use native.Mathlib.Omega.{arith}
 use lib.ListN.{length, length-append, length-drop, length-replicate}
 use Rattle.machine.specs.Gate.{movedUp}
 use Rattle.machine.specs.Setup.{names}
-use Rattle.machine.specs.State.{freshCounterAt, freshProcessAt, fresh}
-use Rattle.machine.specs.declared.State.{State}
+use Rattle.machine.specs.State.{freshCounterAt, freshProcessAt, fresh, Sized}
 use Rattle.machine.proofs.Facts.Below.{length-tabulate}
-
-pub record Sized (s : State) : Type 0 where
-  pub queue : length (s .queue) ≡ 64
-  pub counters : length (s .counters) ≡ 16
-  pub words : length (s .words) ≡ 64
-  pub process : length (s .process) ≡ 64
 
 pub fresh-sized : (n l g b : ℕ) → Sized (fresh n l g b)
 unfolding fresh

@@ -15,13 +15,13 @@ use lib.ListN.{length, getD, set, List·getD-eq-default}
 use lib.Seq.{getD-set-same}
 use borrow.Author.Tests.{eqb-true}
 use Rattle.machine.specs.Gate.{joined, movedUp, headGone}
-use Rattle.machine.specs.Range.{gateInRange}
+use Rattle.machine.specs.Range.{gateInRange, ProcessRanges}
 use Rattle.machine.specs.State.{noProcess, freshProcess, withStage, withNode, processAt, withProcess, withCounter, withWord, withGate, withQueue, namesOf, freshCounter}
 use Rattle.machine.specs.declared.Process.{Process}
 use Rattle.machine.specs.declared.State.{State}
 use Rattle.machine.proofs.Facts.Tests.{by-cond}
 use Rattle.machine.proofs.Facts.Lists.{getD-set-by, getD-moved}
-use Rattle.machine.proofs.Ranges.{Limits, ProcessRanges, QueueRanges, Ranges}
+use Rattle.machine.proofs.Ranges.{Limits, QueueRanges, Ranges}
 use Rattle.machine.proofs.Facts.Leaves.{leaves-low}
 
 pub fresh-process : {n l g b : ℕ} → Limits n l g b → ProcessRanges l g b freshProcess

@@ -1,4 +1,5 @@
--- Document 01's machine as definitions, in the document's order. Below and Check are what the others are written with.
+-- Document 01's machine as definitions, in the document's order. Below and Check are what the others are written with. Room and
+-- Touches are what the laws are said with, and Runs what the computed runs are; Laws, Worked and Controls are what is proved of them.
 pub mod Below
 pub mod Check
 pub mod Setup
@@ -13,3 +14,9 @@ pub mod Event
 pub mod Admitted
 pub mod Lists
 pub mod Reports
+pub mod Room
+pub mod Touches
+pub mod Runs
+pub mod Laws
+pub mod Worked
+pub mod Controls

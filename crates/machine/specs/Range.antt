@@ -1,13 +1,14 @@
 -- Document 01, section State: the range of each number. Only places that N, L and g use are looked at, and the whole queue.
+use mathlib.Core.Path.{_≡_}
 use mathlib.Core.Bool.{Bool, cond, _||_}
 use mathlib.Core.List.{List, [], _∷_}
-use Prim.Native.Nat.{ℕ, _*_, _^_}
+use Prim.Native.Nat.{ℕ, _*_, _^_, _≤_, _<_}
 use lib.Dec.{leb, ltb, eqb}
 use lib.IntN.{ℤ, pos, negsuc}
 use lib.ListN.{getD}
 use Rattle.machine.specs.Below.{allBelow}
 use Rattle.machine.specs.Check.{allOf}
-use Rattle.machine.specs.Setup.{setupAnswer}
+use Rattle.machine.specs.Setup.{names, setupAnswer}
 use Rattle.machine.specs.Stage.{exhausted}
 use Rattle.machine.specs.State.{none, processAt, counterAt, wordAt, namesOf, freshCounter}
 use Rattle.machine.specs.declared.Process.{Process}
@@ -63,3 +64,12 @@ rangeTests s =
 
 unfoldable pub inRange : State → Bool
 inRange s = allOf (rangeTests s)
+
+-- A process's numbers in their ranges, under leaves l, segments g and bits b: `processTests` as facts with a name.
+pub record ProcessRanges (l g b : ℕ) (h : Process) : Type 0 where
+  pub stage : h .stage ≤ 6
+  pub node1 : 1 ≤ h .node
+  pub node : h .node < 2 * l
+  pub segment : h .segment < g
+  pub name : (h .name ≡ none → ⊥) → h .name < names l g b
+  pub steps : h .steps ≤ 255

@@ -1,11 +1,12 @@
 -- Document 01, section State: the parts of a state, how one of them changes, the fresh state and the blank one.
 -- No other file builds a state or a process field by field.
+use mathlib.Core.Path.{_≡_}
 use mathlib.Core.Bool.{cond, _&&_}
 use mathlib.Core.List.{List}
 use Prim.Native.Nat.{ℕ, _+_, _/_, _^_}
 use lib.Dec.{ltb}
 use lib.IntN.{ℤ, pos}
-use lib.ListN.{getD, set, replicate}
+use lib.ListN.{length, getD, set, replicate}
 use Rattle.machine.specs.Below.{tabulate}
 use Rattle.machine.specs.Check.{checked}
 use Rattle.machine.specs.Setup.{Setup, names, setupChecks, log2}
@@ -209,3 +210,10 @@ blank =
 -- A refused setup gives the number and the blank state.
 unfoldable pub setup : ℕ → ℕ → ℕ → ℕ → Done
 setup n l g b = checked (setupChecks n l g b) (λ a. done a blank) (done 0 (fresh n l g b))
+
+-- The arrays have the lengths that the record declares: a queue of 64, counters for 16 nodes, 64 segment words, 64 processes.
+pub record Sized (s : State) : Type 0 where
+  pub queue : length (s .queue) ≡ 64
+  pub counters : length (s .counters) ≡ 16
+  pub words : length (s .words) ≡ 64
+  pub process : length (s .process) ≡ 64

@@ -12,16 +12,15 @@ use Rattle.machine.specs.Event.{refused, request, release, guarded, stages, sta
 use Rattle.machine.specs.Gate.{above0, among, headGone, enter, await, leave}
 use Rattle.machine.specs.Getname.{descend, probe, getnameStep}
 use Rattle.machine.specs.Putname.{giveBack, climb, putnameStep}
+use Rattle.machine.specs.Room.{canFall, canRise, climbRoom, putnameRoom}
 use Rattle.machine.specs.Stage.{remainder, entry, working, putname}
-use Rattle.machine.specs.State.{done, none, noProcess, freshProcess, withStage, withNode, processAt, counterAt, wordAt, namesOf, freshCounter, withProcess, withCounter, withWord, withArrays}
+use Rattle.machine.specs.State.{done, none, noProcess, freshProcess, withStage, withNode, processAt, counterAt, wordAt, namesOf, freshCounter, withProcess, withCounter, withWord, withArrays, Sized}
 use Rattle.machine.specs.declared.Process.{Process}
 use Rattle.machine.specs.declared.State.{State}
-use Rattle.machine.proofs.Laws.Room.{canFall, canRise, climbRoom, putnameRoom}
 use Rattle.machine.proofs.Laws.Room.Gate.{above-falls, enter-room, await-room}
 use Rattle.machine.proofs.Laws.Room.Getname.{getname-room}
 use Rattle.machine.proofs.Laws.Room.Putname.{putname-room}
 use Rattle.machine.proofs.Ranges.{Ranges, in-range}
-use Rattle.machine.proofs.Sized.{Sized}
 use Rattle.operations.specs.Moves.{entered, enteredQueue, awaited, descended, probed, climbed, departed, departedQueue}
 use Rattle.operations.specs.Places.{getnamePlace, putnamePlace, stepPlace, placeOf, doneAt}
 use Rattle.operations.specs.declared.place.Place.the-variants.{Own, Gate, Queue, Parent, Root}

@@ -11,7 +11,7 @@ use mir.Syntax.{w8}
 use mir.Val.{SFits, toZ}
 use borrow.Author.Tests.{lt-ltb, ltb-true}
 use Rattle.machine.specs.Gate.{above0}
-use Rattle.machine.proofs.Laws.Room.{canFall, canRise}
+use Rattle.machine.specs.Room.{canFall, canRise}
 
 pub above-is : (z : ℤ) → ltZ (pos 0) z ≡ above0 z
 unfolding above0

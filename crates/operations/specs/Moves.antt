@@ -9,10 +9,10 @@ use lib.ListN.{set}
 use Rattle.machine.specs.Gate.{above0, among, movedUp}
 use Rattle.machine.specs.Getname.{claimed, side, outcome}
 use Rattle.machine.specs.Operations.{setFirstZero, boundedDecrement}
+use Rattle.machine.specs.Room.{canFall, canRise}
 use Rattle.machine.specs.Stage.{remainder, waiting, getname}
 use Rattle.machine.specs.State.{withStage, withNode, withSegment, freshCounter}
 use Rattle.machine.specs.declared.Process.{Process}
-use Rattle.machine.proofs.Laws.Room.{canFall, canRise}
 use Rattle.operations.specs.declared.gate.Gated.{Gated}
 use Rattle.operations.specs.declared.getname.Moved.{Moved}
 

@@ -4,13 +4,13 @@ use mathlib.Core.List.{[], _∷_}
 use Prim.Native.Nat.{ℕ, _+_, _*_, _-_, _/_, _%_, _≤_}
 use lib.Dec.{ltb, eqb}
 use lib.ListN.{getD}
+use Rattle.machine.specs.Range.{ProcessRanges}
 use Rattle.machine.specs.Stage.{remainder, entry, working, putname}
 use Rattle.machine.specs.Operations.{clrBit}
 use Rattle.machine.specs.State.{done, none, freshProcess, withStage, withNode, withName, processAt, counterAt, wordAt, namesOf, withGate, withQueue, withCounter, withWord, withProcess}
 use Rattle.machine.specs.declared.Done.{Done}
 use Rattle.machine.specs.declared.Process.{Process}
 use Rattle.machine.specs.declared.State.{State}
-use Rattle.machine.proofs.Ranges.{ProcessRanges}
 use Rattle.operations.specs.Moves.{entered, enteredQueue, awaited, descended, probed, climbed, departed, departedQueue}
 use Rattle.operations.specs.declared.place.Place.{Place}
 use Rattle.operations.specs.declared.place.Place.the-variants.{Own, Gate, Queue, Counter, Segment, Bit, Parent, Root}

@@ -6,7 +6,7 @@ ghost use Prim.Native.Nat.{_≤_};
 ghost use lib.IntN.{sucℤ, predℤ};
 ghost use lib.ListN.{length};
 ghost use Rattle.machine.specs.Gate.{above0, among, movedUp};
-ghost use Rattle.machine.proofs.Laws.Room.{canFall, canRise};
+ghost use Rattle.machine.specs.Room.{canFall, canRise};
 ghost use Rattle.operations.specs.Moves.{entered, enteredQueue, awaited, departed, departedQueue};
 
 // A process record, the gate word and the number queued after an operation, with its answer.

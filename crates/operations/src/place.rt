@@ -1,7 +1,6 @@
 // Which shared place an event touches.
 use machine::Process;
 ghost use mathlib.Core.Path.{_≡_};
-ghost use Rattle.machine.proofs.Ranges.{ProcessRanges};
 ghost use Rattle.operations.specs.Places.{stepPlace, placeOf, Setting};
 
 // Nothing shared, with the process after the event and the answer; the gate with its queue; the queue alone; a counter on the way

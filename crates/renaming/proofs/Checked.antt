@@ -6,12 +6,11 @@ use Prim.Native.Nat.{ℕ, _<_}
 use native.Mathlib.Decide.{ℕ-discrete}
 use Rattle.machine.specs.Event.{event}
 use Rattle.machine.specs.Range.{inRange}
-use Rattle.machine.specs.State.{processAt}
+use Rattle.machine.specs.State.{processAt, Sized}
 use Rattle.machine.specs.declared.State.{State}
 use Rattle.machine.proofs.Laws.Answers.{accepted-in-range, refused-unchanged}
 use Rattle.machine.proofs.Laws.OnePlace.{sized-kept}
 use Rattle.machine.proofs.Ranges.{Limits, Ranges, ranges-of, in-range}
-use Rattle.machine.proofs.Sized.{Sized}
 use Rattle.operations.specs.Places.{Setting}
 use Rattle.ranges.proofs.Accepted.{leaves-16}
 

@@ -7,11 +7,10 @@ use mathlib.Core.Path.{_≡_}
 use mathlib.Core.Logic.{_≢_}
 use Prim.Native.Nat.{ℕ, zero, suc, _+_, _≤_, _<_}
 use Rattle.machine.specs.Setup.{Setup, height, log2}
-use Rattle.machine.specs.State.{none, setupOf, processAt}
+use Rattle.machine.specs.State.{none, setupOf, processAt, Sized}
 use Rattle.machine.specs.declared.Process.{Process}
 use Rattle.machine.specs.declared.State.{State}
 use Rattle.machine.proofs.Ranges.{Ranges}
-use Rattle.machine.proofs.Sized.{Sized}
 use Rattle.renaming_claim.proofs.Bits.{Bits}
 use Rattle.renaming_claim.proofs.Bounds.{Bounds}
 use Rattle.renaming_claim.proofs.Bounds.Segments.{Stands}

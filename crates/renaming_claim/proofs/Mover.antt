@@ -14,12 +14,12 @@ use native.Mathlib.Omega.{arith}
 use lib.ListN.{length, set}
 use lib.Seq.{getD-set-same, getD-set-other}
 use Rattle.machine.specs.Below.{indicator as ind}
+use Rattle.machine.specs.Range.{ProcessRanges}
 use Rattle.machine.specs.Setup.{Setup}
 use Rattle.machine.specs.State.{noProcess, setupOf, processAt}
 use Rattle.machine.specs.declared.Process.{Process}
 use Rattle.machine.specs.declared.State.{State}
 use Rattle.machine.proofs.Facts.Leaves.{leaves-high}
-use Rattle.machine.proofs.Ranges.{ProcessRanges}
 use Rattle.renaming_claim.proofs.Bounds.{Bounds, bounds-same}
 use Rattle.renaming_claim.proofs.Gate.{occurs, beyond, beyond-yes, Gate, gate-keep}
 use Rattle.renaming_claim.proofs.Invariant.{ByStage, Shape, Invariant, Reachable}

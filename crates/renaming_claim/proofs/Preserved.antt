@@ -16,12 +16,12 @@ use Rattle.machine.specs.Admitted.{admitted}
 use Rattle.machine.specs.Event.{event}
 use Rattle.machine.specs.Lists.{Event, eventDone, after}
 use Rattle.machine.specs.Range.{inRange}
+use Rattle.machine.specs.State.{Sized}
 use Rattle.machine.specs.declared.Done.{Done}
 use Rattle.machine.specs.declared.State.{State}
 use Rattle.machine.proofs.Laws.OnePlace.{sized-kept}
 use Rattle.machine.proofs.Moves.{Move, requests, enters, awaits, claims, returns, stays, releases, Outcome, refuses, accepts, event-outcome}
 use Rattle.machine.proofs.Ranges.{ranges-of}
-use Rattle.machine.proofs.Sized.{Sized}
 use Rattle.renaming_claim.proofs.Invariant.{Invariant, Reachable}
 use Rattle.renaming_claim.proofs.Mover.{Mover, by-stage}
 use Rattle.renaming_claim.proofs.Preserved.Entry.{request-keeps, enter-keeps, await-keeps}

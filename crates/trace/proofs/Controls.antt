@@ -3,8 +3,9 @@ use mathlib.Core.Path.{_≡_, refl}
 use mathlib.Core.List.{List, [], _∷_, _++_}
 use Prim.Native.Nat.{ℕ}
 use lib.ListN.{length}
+use Rattle.machine.specs.Runs.{ask, turn, finish}
 use Rattle.machine.specs.State.{done, fresh, blank}
-use Rattle.machine.proofs.Runs.{machine, ask, turn, finish}
+use Rattle.machine.proofs.Runs.{machine}
 use Rattle.trace.specs.Layout.{isMarked, word, isEntry, fileAnswer, readSetup, readEvents}
 
 -- the contents, with the size of body 2, and body 1

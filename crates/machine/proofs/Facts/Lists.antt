@@ -7,6 +7,7 @@ use native.Mathlib.Decide.{ℕ-discrete, decLt}
 use native.Mathlib.Omega.{arith}
 use lib.ListN.{length, getD, set, drop, length-set, length-map}
 use lib.Seq.{getD-set-same, getD-set-other, set-out}
+use Rattle.machine.specs.Touches.{Agrees}
 
 -- what holds of the value stored, and of what stood there, holds of what stands there after the store
 pub getD-set-by : {A : Type 0} (P : A → Type 0) (l : List A) (i : ℕ) (a : A) (j : ℕ) (d : A)
@@ -27,12 +28,7 @@ getD-moved (x ∷ []) (suc i) d = refl
 getD-moved (x ∷ y ∷ l) zero d = refl
 getD-moved (x ∷ y ∷ l) (suc i) d = getD-moved (y ∷ l) i d
 
--- two lists of one length that agree at the places in use
-pub record Agrees {A : Type 0} (d : A) (used : ℕ → Type 0) (l l′ : List A) : Type 0 where
-  pub at : (i : ℕ) → used i → getD l′ i d ≡ getD l i d
-  pub size : length l′ ≡ length l
-
--- they agree after the same store
+-- two lists that agree at the places in use agree there after the same store
 pub store-agrees : {A : Type 0} {d : A} {used : ℕ → Type 0} {l l′ : List A} (i : ℕ) (a : A) → Agrees d used l l′ → Agrees d used (set l i a) (set l′ i a)
 store-agrees {d = d} {used} {l} {l′} i a k =
     record { at = λ j u. go j u (ℕ-discrete j i) (decLt i (length l)); size = length-set l′ i a ∙ k .size ∙ sym (length-set l i a) }

@@ -1,6 +1,5 @@
 -- An event touches its own process's record and at most one shared place, one that the setup uses: the gate with its queue,
 -- the counter of one node, or one segment word. By the moves. It is what one operation in a radio frame means.
---     Touches          the places that an event touches
 --     event-touches    every event does
 --     others-unchanged, setup-unchanged, unused-process, -counter, -word, sized-kept    what it therefore leaves alone
 -- Assumes nothing.
@@ -10,7 +9,6 @@ use mathlib.Core.List.{List}
 use Prim.Native.Nat.{ℕ, _*_, _/_, _%_, _≤_, _<_}
 use native.Mathlib.Omega.{arith}
 use lib.Dec.{eqb, ltb}
-use lib.IntN.{ℤ}
 use lib.ListN.{length, length-set}
 use lib.Seq.{getD-set-other}
 use borrow.Author.Tests.{ltb-true, ltb-false, eqb-false}
@@ -18,23 +16,16 @@ use Rattle.machine.specs.Event.{event}
 use Rattle.machine.specs.Gate.{above0, inQueue, headGone, enter, await, leave}
 use Rattle.machine.specs.Getname.{descend, probe, getnameStep}
 use Rattle.machine.specs.Putname.{giveBack, climb, putnameStep}
-use Rattle.machine.specs.State.{none, noProcess, withNode, setupOf, processAt, counterAt, wordAt, withProcess, withQueue, withGate, withCounter, withWord, update}
+use Rattle.machine.specs.Range.{ProcessRanges}
+use Rattle.machine.specs.State.{none, noProcess, withNode, setupOf, processAt, counterAt, wordAt, update, Sized}
+use Rattle.machine.specs.Touches.{Touches, nothing, own, gate, counter, word}
 use Rattle.machine.specs.declared.Done.{Done}
-use Rattle.machine.specs.declared.Process.{Process}
 use Rattle.machine.specs.declared.State.{State}
 use Rattle.machine.proofs.Facts.Tests.{by-cond}
 use Rattle.machine.proofs.Places.{leaf-segment, name-segment}
-use Rattle.machine.proofs.Ranges.{ProcessRanges, Ranges}
-use Rattle.machine.proofs.Sized.{Sized, moved-up-length}
+use Rattle.machine.proofs.Ranges.{Ranges}
+use Rattle.machine.proofs.Sized.{moved-up-length}
 use Rattle.machine.proofs.Moves.{Move, requests, enters, awaits, claims, returns, stays, releases, Outcome, refuses, accepts, event-outcome}
-
-pub data Touches (s : State) (p : ℕ) : State → Type 0 where
-  nothing : Touches s p s
-  own : (h : Process) → Touches s p (withProcess p h s)
-  gate : (h : Process) (a : ℤ) (n : ℕ) (q : List ℕ) → (length (s .queue) ≡ 64 → length q ≡ 64)
-      → Touches s p (withProcess p h (withQueue n q (withGate a s)))
-  counter : (h : Process) (v c : ℕ) → 0 < v → v < s .leaves → Touches s p (withProcess p h (withCounter v c s))
-  word : (h : Process) (r w : ℕ) → r < s .leaves * s .segments → Touches s p (withProcess p h (withWord r w s))
 
 module _ (s : State) (p : ℕ) (k : Ranges s) (kp : p < s .processes) where
   abbrev At : State → Type 0

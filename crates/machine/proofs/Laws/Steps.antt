@@ -10,14 +10,13 @@ use borrow.Author.Tests.{eqb-true}
 use Rattle.machine.specs.Event.{event}
 use Rattle.machine.specs.Gate.{movedUp, headGone}
 use Rattle.machine.specs.Stage.{entry}
-use Rattle.machine.specs.State.{freshProcess, withStage, processAt}
+use Rattle.machine.specs.State.{freshProcess, withStage, processAt, Sized}
 use Rattle.machine.specs.declared.Done.{Done}
 use Rattle.machine.specs.declared.Process.{Process}
 use Rattle.machine.specs.declared.State.{State}
 use Rattle.machine.proofs.Facts.Lists.{getD-moved}
 use Rattle.machine.proofs.Facts.Tests.{by-cond}
 use Rattle.machine.proofs.Moves.{Outcome, refuses, accepts, requests, event-outcome}
-use Rattle.machine.proofs.Sized.{Sized}
 use Rattle.machine.proofs.Stores.{own-record}
 
 reset-in : (s : State) (p : ℕ) → Sized s → {d : Done} → Outcome s 0 p d → d .answer ≡ 0 → processAt (d .state) p .steps ≡ 0

@@ -1,7 +1,6 @@
 -- Places that N, L and g leave unused are never read: two states that differ there alone give the same answer to every event, and
 -- differ there alone afterwards. Each test of a step looks at used places, and each store is made on both sides.
---     Alike           two states that agree on every used place
---     event-alike     an event keeps them so, with one answer
+--     event-alike     an event keeps states alike, with one answer
 -- Assumes nothing.
 use mathlib.Core.Path.{_≡_, refl, ap}
 use mathlib.Core.Bool.{Bool, true, false, cond, _||_}
@@ -18,24 +17,17 @@ use Rattle.machine.specs.Event.{refused, request, release, guarded, stag
 use Rattle.machine.specs.Gate.{above0, inQueue, movedUp, headGone, enter, await, leave}
 use Rattle.machine.specs.Getname.{segmentOf, descend, probe, getnameStep}
 use Rattle.machine.specs.Putname.{giveBack, climb, putnameStep}
-use Rattle.machine.specs.Range.{setupInRange, counterInRange, wordInRange, processTests, processInRange, inRange}
+use Rattle.machine.specs.Range.{setupInRange, counterInRange, wordInRange, processTests, processInRange, inRange, ProcessRanges}
 use Rattle.machine.specs.Stage.{remainder, waiting, getname, working}
-use Rattle.machine.specs.State.{done, none, noProcess, withStage, withSegment, withNode, processAt, counterAt, namesOf, freshCounter, withGate, withQueue, withCounter, withWord, withProcess, withArrays, update}
+use Rattle.machine.specs.State.{done, none, withStage, withSegment, withNode, processAt, counterAt, namesOf, freshCounter, withGate, withQueue, withCounter, withWord, withProcess, withArrays, update}
+use Rattle.machine.specs.Touches.{Alike, alike, Same}
 use Rattle.machine.specs.declared.Done.{Done}
 use Rattle.machine.specs.declared.Process.{Process}
 use Rattle.machine.specs.declared.State.{State}
 use Rattle.machine.proofs.Facts.Below.{all-same}
-use Rattle.machine.proofs.Facts.Lists.{Agrees, store-agrees}
+use Rattle.machine.proofs.Facts.Lists.{store-agrees}
 use Rattle.machine.proofs.Places.{leaf-segment, name-segment}
-use Rattle.machine.proofs.Ranges.{ProcessRanges, Ranges, ranges-of}
-
--- t has other arrays than s, which agree with those of s at every place that the setup uses
-pub data Alike (s : State) : State → Type 0 where
-  alike : (cs ws : List ℕ) (ps : List Process)
-      → Agrees 0 (λ v. (0 < v) × (v < s .leaves)) (s .counters) cs
-      → Agrees 0 (λ r. r < s .leaves * s .segments) (s .words) ws
-      → Agrees noProcess (λ p. p < s .processes) (s .process) ps
-      → Alike s (withArrays cs ws ps s)
+use Rattle.machine.proofs.Ranges.{Ranges, ranges-of}
 
 -- the same store on both sides
 gate-alike : {s t : State} (a : ℤ) → Alike s t → Alike (withGate a s) (withGate a t)
@@ -146,11 +138,6 @@ module _ {s : State} (ranges : Ranges s) (p : ℕ) (l : p < s .processes) where
       (cond-alike (eqb (processAt s p .name) none)
       (λ _. cond-alike (ltb 1 (processAt s p .node)) (λ e. climb-alike (ltb-true _ _ e) a) (λ _. leave-alike a))
       (λ e. give-alike (eqb-false _ _ e) a))
-
--- one answer, and states that are alike
-pub record Same (d e : Done) : Type 0 where
-  pub answer : e .answer ≡ d .answer
-  pub states : Alike (d .state) (e .state)
 
 same : {s t : State} (a : ℕ) → Alike s t → Same (done a s) (done a t)
 same a k = record { answer = refl; states = k }

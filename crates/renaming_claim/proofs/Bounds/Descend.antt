@@ -12,10 +12,11 @@ use lib.ListN.{length, getD, set}
 use lib.Seq.{getD-set-same, getD-set-other}
 use borrow.Author.Tests.{eq-eqb, ne-eqb, leb-true, leb-false}
 use Rattle.machine.specs.Below.{indicator as ind}
+use Rattle.machine.specs.Range.{ProcessRanges}
 use Rattle.machine.specs.Setup.{Setup}
 use Rattle.machine.specs.declared.Process.{Process}
 use Rattle.machine.proofs.Facts.Leaves.{leaves-high}
-use Rattle.machine.proofs.Ranges.{Limits, ProcessRanges}
+use Rattle.machine.proofs.Ranges.{Limits}
 use Rattle.renaming_claim.proofs.Bounds.{Bounds, SegmentBound, CounterIs, subtrees-move, segments-move, counters-move}
 use Rattle.renaming_claim.proofs.Facts.Sums.{ind-le, sum-le, sum-add, sum-single}
 use Rattle.renaming_claim.proofs.Facts.Tree.{under, down, pair, under-self, under-up}

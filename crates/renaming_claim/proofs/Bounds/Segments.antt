@@ -18,10 +18,11 @@ use lib.ListN.{length, getD, set}
 use borrow.Author.Tests.{eq-eqb, ne-eqb}
 use Rattle.machine.specs.Below.{indicator as ind}
 use Rattle.machine.specs.Operations.{bit}
+use Rattle.machine.specs.Range.{ProcessRanges}
 use Rattle.machine.specs.Setup.{Setup}
 use Rattle.machine.specs.State.{none}
 use Rattle.machine.specs.declared.Process.{Process}
-use Rattle.machine.proofs.Ranges.{Limits, ProcessRanges}
+use Rattle.machine.proofs.Ranges.{Limits}
 use Rattle.renaming_claim.proofs.Bits.{Bits, word-of, bit-of, filled}
 use Rattle.renaming_claim.proofs.Bounds.{Bounds, SegmentBound, segment-bound, subtrees-move, segments-move, counters-move}
 use Rattle.renaming_claim.proofs.Facts.Sums.{ind-le, sum-le, sum-add, sum-single, hits, hits-le, hits-out}

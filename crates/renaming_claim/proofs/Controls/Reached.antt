@@ -8,10 +8,11 @@ use lib.ListN.{take}
 use Rattle.machine.specs.Admitted.{admitted}
 use Rattle.machine.specs.Lists.{Event, eventsOf, journal}
 use Rattle.machine.specs.Reports.{statusOf}
+use Rattle.machine.specs.Runs.{ask, turn, finish, line}
 use Rattle.machine.specs.Setup.{height}
 use Rattle.machine.specs.Stage.{remainder, entry, waiting, getname, working, putname}
 use Rattle.machine.specs.State.{none, processAt, counterAt, wordAt, fresh}
-use Rattle.machine.proofs.Runs.{machine, ask, turn, finish, line}
+use Rattle.machine.proofs.Runs.{machine}
 use Rattle.renaming_claim.specs.Claim.{afterList}
 
 -- one name for two processes: 0 wins it, 1 queues, 0 returns it, 1 goes on and wins it

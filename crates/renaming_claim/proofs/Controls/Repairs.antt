@@ -18,13 +18,14 @@ use Rattle.machine.specs.Getname.{claimed, descend, probe, getnameStep}
 use Rattle.machine.specs.Lists.{Event, eventsOf}
 use Rattle.machine.specs.Operations.{boundedDecrement}
 use Rattle.machine.specs.Putname.{giveBack, putnameStep}
+use Rattle.machine.specs.Runs.{ask, turn, finish}
 use Rattle.machine.specs.Setup.{log2}
 use Rattle.machine.specs.Stage.{remainder, entry, working, putname, exhausted}
 use Rattle.machine.specs.State.{none, freshProcess, withStage, withNode, withSegment, processAt, counterAt, wordAt, withCounter, withProcess, update, fresh}
 use Rattle.machine.specs.declared.ClaimStep.{ClaimStep}
 use Rattle.machine.specs.declared.ClaimStep.the-variants.{Left, Right}
 use Rattle.machine.specs.declared.State.{State}
-use Rattle.machine.proofs.Runs.{machine, ask, turn, finish}
+use Rattle.machine.proofs.Runs.{machine}
 
 -- what a step does in stages 1, 3 and 5
 pub record Variant : Type 0 where

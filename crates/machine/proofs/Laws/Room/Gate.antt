@@ -8,13 +8,13 @@ use lib.Dec.{ltb, leb·suc-suc}
 use lib.IntN.{ℤ, pos, negsuc, sucℤ, predℤ}
 use borrow.Author.Tests.{leb-true, ltb-true, le-leb, lt-ltb}
 use Rattle.machine.specs.Gate.{above0, inQueue, lowered, joined, enter, await}
-use Rattle.machine.specs.Range.{gateInRange, inRange}
+use Rattle.machine.specs.Range.{gateInRange, inRange, ProcessRanges}
+use Rattle.machine.specs.Room.{canFall, canRise, enterRoom}
 use Rattle.machine.specs.Stage.{waiting, getname}
 use Rattle.machine.specs.State.{withStage, processAt, namesOf, update}
 use Rattle.machine.specs.declared.State.{State}
 use Rattle.machine.proofs.Facts.Tests.{by-cond, both, and-left, and-right, same-test}
-use Rattle.machine.proofs.Laws.Room.{canFall, canRise, enterRoom}
-use Rattle.machine.proofs.Ranges.{ProcessRanges, Ranges, ranges-of, in-range}
+use Rattle.machine.proofs.Ranges.{Ranges, ranges-of, in-range}
 use Rattle.machine.proofs.Stores.{new-stage, store-process, set-gate, join-queue}
 
 gate-falls : (k : ℕ) (a : ℤ) → gateInRange k a ≡ true → gateInRange k (predℤ a) ≡ canFall a

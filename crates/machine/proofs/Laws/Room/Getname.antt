@@ -9,15 +9,15 @@ use lib.ListN.{length}
 use borrow.Author.Tests.{ltb-true, ltb-false, lt-ltb}
 use Rattle.machine.specs.Getname.{moved, claimed, side, outcome, segmentOf, descend, probe, getnameStep}
 use Rattle.machine.specs.Operations.{setFirstZero, boundedDecrement}
-use Rattle.machine.specs.Range.{inRange}
+use Rattle.machine.specs.Range.{inRange, ProcessRanges}
+use Rattle.machine.specs.Room.{getnameRoom}
 use Rattle.machine.specs.State.{processAt, counterAt, wordAt, namesOf, freshCounter, withCounter, withWord, update}
 use Rattle.machine.specs.declared.ClaimStep.{ClaimStep}
 use Rattle.machine.specs.declared.State.{State}
 use Rattle.machine.proofs.Facts.Tests.{by-cond, same-test}
 use Rattle.machine.proofs.Facts.Words.{set-first-zero-lt, decremented-le}
-use Rattle.machine.proofs.Laws.Room.{getnameRoom}
 use Rattle.machine.proofs.Places.{leaf-segment}
-use Rattle.machine.proofs.Ranges.{ProcessRanges, Ranges, ranges-of, in-range}
+use Rattle.machine.proofs.Ranges.{Ranges, ranges-of, in-range}
 use Rattle.machine.proofs.Stores.{new-stage, new-node, own-record, store-process, store-counter, store-word}
 
 -- a step whose other numbers are in range has room exactly when its steps have

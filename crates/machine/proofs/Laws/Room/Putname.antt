@@ -12,19 +12,18 @@ use borrow.Author.Tests.{ltb-true, eqb-false, lt-ltb}
 use Rattle.machine.specs.Gate.{headGone, leave}
 use Rattle.machine.specs.Operations.{clrBit}
 use Rattle.machine.specs.Putname.{giveBack, climb, putnameStep}
-use Rattle.machine.specs.Range.{inRange}
+use Rattle.machine.specs.Range.{inRange, ProcessRanges}
+use Rattle.machine.specs.Room.{canRise, climbRoom, putnameRoom}
 use Rattle.machine.specs.Stage.{remainder}
-use Rattle.machine.specs.State.{none, withStage, withSegment, withNode, withName, processAt, counterAt, wordAt, namesOf, freshCounter, withCounter, update}
+use Rattle.machine.specs.State.{none, withStage, withSegment, withNode, withName, processAt, counterAt, wordAt, namesOf, freshCounter, withCounter, update, Sized}
 use Rattle.machine.specs.declared.Process.{Process}
 use Rattle.machine.specs.declared.State.{State}
 use Rattle.machine.proofs.Facts.Tests.{same-test}
 use Rattle.machine.proofs.Facts.Leaves.{leaves-high}
 use Rattle.machine.proofs.Facts.Words.{clr-bit-le}
-use Rattle.machine.proofs.Laws.Room.{canRise, climbRoom, putnameRoom}
 use Rattle.machine.proofs.Laws.Room.Gate.{gate-rises}
 use Rattle.machine.proofs.Places.{name-segment}
-use Rattle.machine.proofs.Ranges.{ProcessRanges, Ranges, ranges-of, in-range}
-use Rattle.machine.proofs.Sized.{Sized}
+use Rattle.machine.proofs.Ranges.{Ranges, ranges-of, in-range}
 use Rattle.machine.proofs.Stores.{new-node, store-process, store-counter, store-word, set-gate, advance-queue}
 
 module _ (s : State) (p : ℕ) (k : Ranges s) (kp : p < s .processes) (z : Sized s) where

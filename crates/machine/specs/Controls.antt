@@ -1,0 +1,153 @@
+-- Runs beyond the table that pin what it leaves open: the order of the refusals, each range by itself, the queue's order, and a
+-- full round on either side of a node. `controls` in proofs/Controls.antt computes each.
+use mathlib.Core.Path.{_≡_}
+use mathlib.Core.Bool.{true, false}
+use mathlib.Core.List.{List, [], _∷_, _++_, map}
+use Prim.Native.Nat.{ℕ}
+use lib.IntN.{pos, negsuc}
+use lib.ListN.{take, replicate}
+use Rattle.machine.specs.Admitted.{admitted}
+use Rattle.machine.specs.Below.{tabulate}
+use Rattle.machine.specs.Event.{event}
+use Rattle.machine.specs.Lists.{Event, eventsOf, after, journal, run, runJournal}
+use Rattle.machine.specs.Operations.{setFirstZero}
+use Rattle.machine.specs.Range.{inRange}
+use Rattle.machine.specs.Reports.{gateReport, statusAnswer, statusList}
+use Rattle.machine.specs.Runs.{ask, turn, finish, line}
+use Rattle.machine.specs.State.{done, none, freshProcess, withStage, withNode, withSegment, withName, withSteps, processAt, counterAt, withGate, withQueue, withCounter, withWord, withProcess, update, fresh, blank, setup}
+use Rattle.machine.specs.declared.State.{State}
+
+-- two processes, two leaves of one segment of one bit; and one name for three
+abbrev pub pair : State
+pair = fresh 2 2 1 1
+
+abbrev pub single : State
+single = fresh 3 1 1 1
+
+-- process 0 wins by the left leaf and process 1 by the right; 1 gives its name back, then 0
+abbrev pub round : List Event
+round =
+    eventsOf
+    (ask 0 ++ turn 0 ++ turn 0 ++ turn 0
+    ++ ask 1 ++ turn 1 ++ turn 1 ++ turn 1
+    ++ finish 1 ++ turn 1 ++ turn 1 ++ turn 1
+    ++ finish 0 ++ turn 0 ++ turn 0 ++ turn 0)
+
+-- process 0 wins; 1 and then 2 join the queue; 0 returns
+abbrev pub queueing : List Event
+queueing =
+    eventsOf
+    (ask 0 ++ turn 0 ++ turn 0 ++ ask 1 ++ turn 1 ++ ask 2 ++ turn 2 ++ finish 0 ++ turn 0 ++ turn 0 ++ turn 2 ++ turn 1)
+
+-- process 0 at the last of two full segments
+abbrev pub full : State
+full = withWord 0 1 (withWord 1 1 (update 0 (λ h. withStage 3 (withSegment 1 h)) (fresh 2 1 2 1)))
+
+-- one number of `pair` outside its range, each by itself
+abbrev pub broken : List State
+broken =
+    fresh 0 2 1 1
+    ∷ fresh 65 2 1 1
+    ∷ fresh 2 3 1 1
+    ∷ fresh 2 2 0 1
+    ∷ fresh 2 2 9 1
+    ∷ fresh 2 2 1 0
+    ∷ fresh 2 2 1 9
+    ∷ fresh 2 16 8 1
+    ∷ withGate (pos 3) pair
+    ∷ withGate (negsuc 64) pair
+    ∷ withQueue 65 (replicate 64 0) pair
+    ∷ withQueue 1 (2 ∷ replicate 63 0) pair
+    ∷ withQueue 0 (1 ∷ replicate 63 0) pair
+    ∷ withQueue 0 (replicate 63 0 ++ 1 ∷ []) pair
+    ∷ withCounter 1 2 pair
+    ∷ withWord 1 2 pair
+    ∷ update 1 (withStage 7) pair
+    ∷ update 1 (withNode 0) pair
+    ∷ update 1 (withNode 4) pair
+    ∷ update 1 (withSegment 1) pair
+    ∷ update 1 (withName 2) pair
+    ∷ update 1 (withName 254) pair
+    ∷ update 1 (withSteps 256) pair
+    ∷ blank
+    ∷ []
+
+-- each number at an end of its range, and any number where nothing is used
+abbrev pub whole : List State
+whole =
+    fresh 1 1 1 1
+    ∷ fresh 1 16 2 2
+    ∷ fresh 64 16 2 2
+    ∷ fresh 64 1 8 8
+    ∷ withGate (negsuc 63) pair
+    ∷ withQueue 64 (replicate 64 1) pair
+    ∷ withCounter 1 0 pair
+    ∷ withWord 1 1 pair
+    ∷ withProcess 1 (record { stage = 6; node = 3; segment = 0; name = 1; steps = 255 }) pair
+    ∷ withCounter 0 255 (withCounter 2 255 (withWord 2 255 (withProcess 2 (record { stage = 9; node = 9; segment = 9; name = 9; steps = 9 }) pair)))
+    ∷ []
+
+-- states in range whose next turn of process 0 would leave one: the gate word at -64, the queue full, the steps at 255,
+-- the counter at its fresh value, the gate word at k
+abbrev pub edges : List State
+edges =
+    withGate (negsuc 63) (update 0 (withStage 1) pair)
+    ∷ withGate (pos 0) (withQueue 64 (replicate 64 1) (update 0 (withStage 1) pair))
+    ∷ update 0 (λ h. withStage 3 (withSteps 255 h)) pair
+    ∷ update 0 (λ h. withStage 5 (withNode 2 h)) pair
+    ∷ update 0 (withStage 5) pair
+    ∷ []
+
+pub record Controls : Type 0 where
+  -- setup checks 1 to 5 in that order: each of these is bad in every later way too
+  pub setups : map (λ (d : ℕ × ℕ × ℕ × ℕ). setup (d .0) (d .1) (d .2) (d .3)) ((65, 3, 9, 9) ∷ (64, 3, 9, 9) ∷ (64, 16, 9, 9) ∷ (64, 16, 8, 9) ∷ (64, 16, 8, 8) ∷ [])
+      ≡ done 1 blank ∷ done 2 blank ∷ done 3 blank ∷ done 4 blank ∷ done 5 blank ∷ []
+  -- of several clear bits the lowest is set
+  pub lowest : setFirstZero 3 0 ≡ record { answer = 0; word = 1 }
+  -- counters k / 2^(d+1), by node
+  pub counters : fresh 64 16 2 2 .counters ≡ 0 ∷ 32 ∷ 16 ∷ 16 ∷ 8 ∷ 8 ∷ 8 ∷ 8 ∷ 4 ∷ 4 ∷ 4 ∷ 4 ∷ 4 ∷ 4 ∷ 4 ∷ 4 ∷ []
+  -- each range by itself, its ends, and unused places
+  pub out-of-range : map inRange broken ≡ replicate 24 false
+  pub at-the-ends : map inRange whole ≡ replicate 10 true
+  -- an event: 15 for the state, 12, 6, then 7, 8 or 9
+  pub state-first : event blank 3 9 ≡ done 15 blank
+  pub refusals : journal pair (eventsOf ((3 ∷ 2 ∷ []) ++ turn 2 ++ turn 0 ++ finish 0 ++ ask 0 ++ ask 0))
+      ≡ line 12 255 255 255 ++ line 6 255 255 255 ++ line 8 0 none 0 ++ line 9 0 none 0 ++ line 0 1 none 0 ++ line 7 1 none 0
+  -- then 15 for the turn: the state stays
+  pub turns : map (λ (s : State). event s 1 0) edges ≡ map (done 15) edges
+  -- the right leaf's process gives no counter back, the left one's does; after the round only the steps tell of it
+  pub right-back : counterAt (after pair (take 12 round)) 1 ≡ 0
+  pub round-trip : after pair round ≡ update 0 (withSteps 2) (update 1 (withSteps 2) pair)
+  -- a second request counts from 0 again
+  pub again : processAt (after pair (round ++ eventsOf (ask 0))) 0 ≡ withStage 1 freshProcess
+  -- the queue is served from its head: 2 stays in it and 1 goes on
+  pub queue : journal single queueing
+      ≡ line 0 1 none 0 ++ line 0 3 none 0 ++ line 0 4 0 1
+      ++ line 0 1 none 0 ++ line 0 2 none 0
+      ++ line 0 1 none 0 ++ line 0 2 none 0
+      ++ line 0 5 0 1 ++ line 0 5 none 1 ++ line 0 0 none 1
+      ++ line 0 2 none 0 ++ line 0 3 none 0
+  -- admitted at the start and after each of those events: 1 still waits, out of the queue, when 0 has left
+  pub let-in : tabulate 13 (λ n. admitted (after single (take n queueing))) ≡ 0 ∷ 0 ∷ replicate 11 1
+  -- at the last segment with no bit clear: stage 6, the segment unchanged; and from there no change
+  pub strays : event full 1 0 ≡ done 0 (update 0 (λ h. withStage 6 (withSteps 1 h)) full)
+  pub strayed : event (event full 1 0 .state) 1 0 ≡ done 0 (event full 1 0 .state)
+  -- a list: 14, 13, 15; a refused list writes nothing, and bytes beyond the entries are untouched
+  pub odd : run blank (0 ∷ []) [] ≡ done 14 blank
+  pub short : run blank (ask 0) (9 ∷ 9 ∷ 9 ∷ []) ≡ done 13 blank
+  pub bad-state : run blank (ask 0) (9 ∷ 9 ∷ 9 ∷ 9 ∷ []) ≡ done 15 blank
+  pub nothing-written : runJournal blank (ask 0) (9 ∷ 9 ∷ 9 ∷ 9 ∷ []) ≡ 9 ∷ 9 ∷ 9 ∷ 9 ∷ []
+  pub beyond : runJournal pair (ask 0) (9 ∷ 9 ∷ 9 ∷ 9 ∷ 9 ∷ []) ≡ line 0 1 none 0 ++ 9 ∷ []
+  -- the gate report above, at and below 0, and refused
+  pub report : map gateReport (pair ∷ withGate (pos 0) pair ∷ withGate (negsuc 4) pair ∷ blank ∷ [])
+      ≡ record { answer = 0; free = 2; queued = 0 }
+      ∷ record { answer = 0; free = 0; queued = 0 }
+      ∷ record { answer = 0; free = 0; queued = 5 }
+      ∷ record { answer = 15; free = 0; queued = 0 }
+      ∷ []
+  -- the status records: 15, 13; records from N on are untouched, and a refused list writes nothing
+  pub status : statusList (after pair (take 4 round)) (replicate 3 (record { stage = 9; name = 9; steps = 9 }))
+      ≡ record { stage = 4; name = 0; steps = 2 } ∷ record { stage = 0; name = none; steps = 0 } ∷ record { stage = 9; name = 9; steps = 9 } ∷ []
+  pub status-state : statusAnswer blank [] ≡ 15
+  pub status-short : (statusAnswer pair (replicate 1 (record { stage = 9; name = 9; steps = 9 })) ≡ 13)
+      × (statusList pair (replicate 1 (record { stage = 9; name = 9; steps = 9 })) ≡ replicate 1 (record { stage = 9; name = 9; steps = 9 }))
