@@ -4,7 +4,7 @@
 #include <string.h>
 #include "zevgorim.h"
 
-_Static_assert(sizeof(zevgorim_process) == 5, "process");
+_Static_assert(sizeof(zevgorim_process) == 5 && offsetof(zevgorim_process, steps) == 4, "process");
 _Static_assert(sizeof(zevgorim_state) == 470, "state");
 _Static_assert(offsetof(zevgorim_state, gate) == 4 && offsetof(zevgorim_state, queued) == 5, "gate");
 _Static_assert(offsetof(zevgorim_state, queue) == 6 && offsetof(zevgorim_state, counters) == 70, "queue, counters");
@@ -75,6 +75,49 @@ static void check_run(void) {
     is("answer of a short roll", zevgorim_fill_status(s, roll, 3), ZEVGORIM_SHORT);
 }
 
+static int same_state(zevgorim_state a, zevgorim_state b) {
+    return memcmp(&a, &b, sizeof a) == 0;
+}
+
+/* the calls of one kind are the event call with its kind given: one process takes the only name and gives it back */
+static void check_kinds(void) {
+    static const uint8_t kinds[] = {0, 1, 1, 2, 1, 1, 0, 0, 2};
+    static const uint8_t answers[] = {0, 0, 0, 0, 0, 0, 0, ZEVGORIM_BUSY, ZEVGORIM_NO_NAME_HELD};
+    zevgorim_done (*const calls[])(zevgorim_state, uint32_t) = {zevgorim_request, zevgorim_step, zevgorim_release};
+    zevgorim_state s = zevgorim_setup(2, 1, 1, 1).state;
+    for (size_t i = 0; i < sizeof kinds; i++) {
+        zevgorim_done by_kind = calls[kinds[i]](s, 1), by_event = zevgorim_event(s, kinds[i], 1);
+        is("answer of a call by kind", by_kind.answer, answers[i]);
+        is("answer of its event", by_event.answer, answers[i]);
+        is("state of a call by kind", same_state(by_kind.state, by_event.state), 1);
+        s = by_kind.state;
+        if (i == 2) is("name after the last step", s.process[1].name, 0);
+    }
+    is("answer to a step in the remainder section", zevgorim_step(zevgorim_setup(2, 1, 1, 1).state, 0).answer, ZEVGORIM_NOT_MOVING);
+}
+
+/* a number above 255 gets the same number of refusal as any other outside its range, and nothing changes */
+static void check_large(uint32_t large) {
+    static const zevgorim_state blank;
+    for (int place = 0; place < 4; place++) {
+        uint32_t n[4] = {2, 1, 1, 1};
+        n[place] = large;
+        zevgorim_done done = zevgorim_setup(n[0], n[1], n[2], n[3]);
+        is("answer to a large number of a setup", done.answer, ZEVGORIM_PROCESSES + place);
+        is("state of a refused setup", same_state(done.state, blank), 1);
+    }
+    is("answer to four large numbers", zevgorim_setup(large, large, large, large).answer, ZEVGORIM_PROCESSES);
+    zevgorim_state s = zevgorim_request(zevgorim_setup(2, 1, 1, 1).state, 1).state;
+    zevgorim_done refused[] = {
+        zevgorim_event(s, large, 1),    zevgorim_event(s, large, large), zevgorim_event(s, 1, large),
+        zevgorim_request(s, large),     zevgorim_step(s, large),         zevgorim_release(s, large),
+    };
+    for (size_t i = 0; i < sizeof refused / sizeof *refused; i++) {
+        is("answer to a large kind or process", refused[i].answer, i < 2 ? ZEVGORIM_KIND : ZEVGORIM_STRANGER);
+        is("state of a refused event", same_state(refused[i].state, s), 1);
+    }
+}
+
 /* what a call gives by value lies within what the header says it takes */
 static void check_edges(void) {
     struct {
@@ -92,7 +135,7 @@ static void check_edges(void) {
     is("garbage given back", memcmp(&back.state, &garbage, sizeof garbage), 0);
 }
 
-/* the worked file of document 01 */
+/* a day file with the setup of document 01's worked one and its first two events */
 static void check_file(void) {
     static const uint8_t file[] = {'T', 'U', 'R', 'N', 2, 1, 23, 0, 0, 0, 4, 0, 0, 0, 2, 27, 0, 0, 0, 4, 0, 0, 0, 2, 1, 1, 1, 0, 0, 1, 0};
     static const char text[] = "0 1 - 0\n0 3 - 0\n";
@@ -102,12 +145,19 @@ static void check_file(void) {
     is("offset", (long)part.offset, 27);
     is("size", (long)part.size, 4);
     is("setup of the file", zevgorim_read_setup(file, sizeof file).state.processes, 2);
+    is("answer of the file", zevgorim_file_answer(file, sizeof file), 0);
+    is("answer of a file cut short", zevgorim_file_answer(file, 26), ZEVGORIM_NO_DAY_FILE);
+    is("answer of a file less an event", zevgorim_file_answer(file, sizeof file - 2), ZEVGORIM_CONTENTS);
+    is("answer of its setup", zevgorim_read_setup(file, sizeof file - 2).answer, ZEVGORIM_CONTENTS);
+    is("size of its events", (long)zevgorim_read_events(file, sizeof file - 2).size, 0);
     zevgorim_text made = zevgorim_file_text(file, sizeof file, out, sizeof out);
     is("answer of the text", made.answer, 0);
     is("size of the text", (long)made.size, (long)strlen(text));
     is("text", memcmp(out, text, strlen(text)), 0);
     is("byte past the text", out[strlen(text)], 170);
     is("answer of a short buffer", zevgorim_file_text(file, sizeof file, out, strlen(text) - 1).answer, ZEVGORIM_SHORT);
+    is("size of a refusal", (long)zevgorim_file_text(file, sizeof file - 2, out, 11).size, 11);
+    is("refusal", memcmp(out, "refused 11\n", 11), 0);
     static const uint8_t journal[] = {15, 255, 255, 255};
     is("size of a line", (long)zevgorim_journal_text(journal, 4, out, sizeof out).size, 9);
 }
@@ -115,6 +165,10 @@ static void check_file(void) {
 int main(void) {
     check_fresh();
     check_run();
+    check_kinds();
+    check_large(256);
+    check_large(257);
+    check_large(UINT32_MAX);
     check_edges();
     check_file();
     puts(wrong ? "the header does not fit the archive" : "the header fits the archive");

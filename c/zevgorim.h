@@ -1,14 +1,54 @@
-/* The pad claim of the finish box, for C. Links with libzevgorim.a (`rt staticlib zevgorim`).
+/* The pad claim of the finish box, for C on x86-64 Linux. Links with libzevgorim.a, which `rt staticlib zevgorim` writes.
  *
- * Every call takes its state by value and gives the state after it by value; it keeps nothing. It returns for every argument, and
- * each promise below is proved for every argument, refusals included: the definitions are in the folders specs/ of the crates.
- * A slice is a pointer and, right after it, its length in elements. The bytes behind it must be there for the time of the call, and
- * what a call writes to must not overlap what it reads; a length of 0 asks nothing of the pointer but that it is not NULL.
+ * A process is a recorder's handset, a name is a pad. The box's own words (document 01) stand beside ours below, in brackets.
+ * docs/MACHINE.md has the machine, the formats and the numbers. c/live.c is a box at work, c/morning.c a replay of a day file.
  *
- * Answers: 0, or the number of a refusal in document 01's table. A refused call writes nothing and gives the state it was lent.
+ *
+ * What you may rely on
+ *
+ * N processes, L leaves, g segments in a leaf, b bits in a segment; k = L*g*b names; h is the tree's height, 2^h = L. After every
+ * list of calls from an accepted setup, in whatever order the processes move, refused calls included:
+ *
+ *   - At most k processes are admitted [let in]: in stages 3 to 6, or in stage 2 and no longer in the queue.
+ *   - The names [pads] of working processes [holders] are below k and all unlike.
+ *   - No process is exhausted [astray].
+ *   - If at no moment, at the start or after a call, more than m processes were admitted, every name held is below m.
+ *   - The steps [spent] of a process are the steps it made in getname [claiming] since its last accepted request. A working process has
+ *     from h + 1 to h + g.
+ *   - A process in getname holds a name directly after one of the next h + g steps given to it at the latest, whatever comes between.
+ *
+ * This, what each call below gives and writes, and that every call ends, is proved of the Rattle source for every argument.
+ *
+ *
+ * What you must do for it
+ *
+ *   - Start from a state that zevgorim_setup or zevgorim_read_setup gave with answer 0.
+ *   - Hand the state that a call gave, refused or not, to the next call that changes it, and drop the older one. One writer.
+ *   - Store a state with a check sum. A state that was edited or damaged carries no claim, and often no call can tell: answer 15 looks
+ *     at the ranges of the numbers, not at whether a list of events leads to them.
+ *
+ *
+ * Platform
+ *
+ *   - x86-64 Linux, System V ABI: the toolchain compiles for nothing else.
+ *   - The archive needs memcpy and memset from outside, and nothing else.
+ *   - It keeps nothing between calls: no heap, no static data but constants, no locks, no system calls. Calls may run in several threads
+ *     at once, as long as none writes to a buffer that another is lent.
+ *   - Stack: the figures ZEVGORIM_STACK_ below.
+ *
+ *
+ * Lent memory
+ *
+ * A buffer is a pointer and, right after it, its length in elements. The pointer is never NULL, with length 0 neither; otherwise a length
+ * of 0 asks nothing of it. The elements must be there, and change by no other hand, for the time of the call. What a call writes to must
+ * not overlap what it reads.
  */
 #ifndef ZEVGORIM_H
 #define ZEVGORIM_H
+
+#if !defined(__x86_64__) || !defined(__linux__) || defined(__ILP32__)
+#error "libzevgorim.a is for x86-64 Linux (System V ABI, 64-bit pointers) only"
+#endif
 
 #include <stddef.h>
 #include <stdint.h>
@@ -17,64 +57,80 @@
 extern "C" {
 #endif
 
-/* Numbers of refusals. */
+/* Answers: 0, or the number of the first check that fails. A number handed to a call is looked at whole, and not cut to a byte. */
 enum {
     ZEVGORIM_OK = 0,
-    ZEVGORIM_PROCESSES = 1,    /* N outside 1 to 64 */
-    ZEVGORIM_LEAVES = 2,       /* L not one of 1, 2, 4, 8, 16 */
-    ZEVGORIM_SEGMENTS = 3,     /* g outside 1 to 8 */
-    ZEVGORIM_BITS = 4,         /* b outside 1 to 8 */
-    ZEVGORIM_NAMES = 5,        /* L*g*b above 64 */
-    ZEVGORIM_STRANGER = 6,     /* process not below N */
-    ZEVGORIM_BUSY = 7,         /* request, not in the remainder section */
-    ZEVGORIM_NOT_MOVING = 8,   /* step, in the remainder section or working */
-    ZEVGORIM_NO_NAME_HELD = 9, /* release, not working */
-    ZEVGORIM_NO_DAY_FILE = 10, /* length outside 27 to 32,768, or bytes 0 to 4 differ */
-    ZEVGORIM_CONTENTS = 11,    /* an entry differs from the layout */
-    ZEVGORIM_KIND = 12,        /* event kind above 2 */
-    ZEVGORIM_SHORT = 13,       /* a lent buffer is shorter than what it is to hold */
-    ZEVGORIM_ODD = 14,         /* list of odd length */
-    ZEVGORIM_BROKEN_STATE = 15 /* a number outside its range, or a step that would take one outside */
+    ZEVGORIM_PROCESSES = 1,    /* [handsets]     N outside 1 to 64 */
+    ZEVGORIM_LEAVES = 2,       /* [leaves]       L not one of 1, 2, 4, 8, 16 */
+    ZEVGORIM_SEGMENTS = 3,     /* [rows]         g outside 1 to 8 */
+    ZEVGORIM_BITS = 4,         /* [bits]         b outside 1 to 8 */
+    ZEVGORIM_NAMES = 5,        /* [pads]         L*g*b above 64 */
+    ZEVGORIM_STRANGER = 6,     /* [stranger]     process not below N */
+    ZEVGORIM_BUSY = 7,         /* [busy]         request, and its stage is not 0 */
+    ZEVGORIM_NOT_MOVING = 8,   /* [not moving]   step, and its stage is 0 or 4 */
+    ZEVGORIM_NO_NAME_HELD = 9, /* [no pad held]  release, and its stage is not 4 */
+    ZEVGORIM_NO_DAY_FILE = 10, /* [no day file]  length outside 27 to 32,768, or bytes 0 to 4 are not TURN and 2 */
+    ZEVGORIM_CONTENTS = 11,    /* [contents]     an entry differs from the layout */
+    ZEVGORIM_KIND = 12,        /* [kind]         kind of event above 2 */
+    ZEVGORIM_SHORT = 13,       /* [short]        a lent buffer is shorter than what it is to hold */
+    ZEVGORIM_ODD = 14,         /* [odd]          list of an odd number of bytes */
+    ZEVGORIM_BROKEN_STATE = 15 /* [broken state] a number of the state outside its range, or a step that would take one outside */
 };
 
-/* Kinds of event (document 01: ask, turn, finish). */
-enum { ZEVGORIM_REQUEST = 0, ZEVGORIM_STEP = 1, ZEVGORIM_RELEASE = 2 };
-
-/* Stages of a process (document 01: idle, asking, waiting, claiming, holding, returning, astray). */
+/* Kinds of event. */
 enum {
-    ZEVGORIM_REMAINDER = 0,
-    ZEVGORIM_ENTRY = 1,
-    ZEVGORIM_WAITING = 2,
-    ZEVGORIM_GETNAME = 3,
-    ZEVGORIM_WORKING = 4,
-    ZEVGORIM_PUTNAME = 5,
-    ZEVGORIM_EXHAUSTED = 6
+    ZEVGORIM_REQUEST = 0, /* [ask] */
+    ZEVGORIM_STEP = 1,    /* [turn] */
+    ZEVGORIM_RELEASE = 2  /* [finish] */
 };
 
-/* A name (document 01: pad) of none. */
+/* Stages of a process. */
+enum {
+    ZEVGORIM_REMAINDER = 0, /* [idle] */
+    ZEVGORIM_ENTRY = 1,     /* [asking] */
+    ZEVGORIM_WAITING = 2,   /* [waiting] */
+    ZEVGORIM_GETNAME = 3,   /* [claiming] */
+    ZEVGORIM_WORKING = 4,   /* [holding] */
+    ZEVGORIM_PUTNAME = 5,   /* [returning] */
+    ZEVGORIM_EXHAUSTED = 6  /* [astray] never reached from an accepted setup */
+};
+
+/* The name of a process that holds none. */
 #define ZEVGORIM_NO_NAME 255
 
-/* One process (document 01: handset). */
+/* Bytes of stack that a call takes below its return address, rounded up. Measured by c/stack.c, which looks how deep a painted stack
+ * was written, with glibc's memcpy and memset; c/run fails where a call takes more. What the C compiler takes in the caller's frame
+ * for the state handed over (470 bytes) and the result (471 bytes) comes on top. */
+enum {
+    ZEVGORIM_STACK_SETUP = 1024,
+    ZEVGORIM_STACK_EVENT = 1280,  /* event, request, step, release, run */
+    ZEVGORIM_STACK_REPORT = 1280, /* gate_report, fill_status */
+    ZEVGORIM_STACK_READ_SETUP = 1536,
+    ZEVGORIM_STACK_SMALL = 128, /* file_answer, read_events, journal_text */
+    ZEVGORIM_STACK_FILE_TEXT = 69632
+};
+
+/* One process [handset]. */
 typedef struct {
-    uint8_t stage;
-    uint8_t node;
-    uint8_t segment;
-    uint8_t name;
-    uint8_t steps;
+    uint8_t stage;   /* 0 to 6 */
+    uint8_t node;    /* where it is in the tree, 1 to 2L - 1 */
+    uint8_t segment; /* [row] in its leaf, 0 to g - 1 */
+    uint8_t name;    /* [pad] 0 to k - 1, or ZEVGORIM_NO_NAME */
+    uint8_t steps;   /* [spent] */
 } zevgorim_process;
 
 /* The whole state: 470 bytes without padding, so that it can be copied, compared and stored as bytes. */
 typedef struct {
     uint8_t processes, leaves, segments, bits; /* the setup: N, L, g, b */
-    int8_t gate;                               /* gate word A, -64 to L*g*b */
+    int8_t gate;                               /* gate word A, -64 to k */
     uint8_t queued;                            /* how many wait at the gate */
     uint8_t queue[64];                         /* their numbers, the head first; 0 past the end */
     uint8_t counters[16];                      /* by node, 1 to L - 1; place 0 is unused */
-    uint8_t words[64];                         /* a word of b bits for each segment, L*g of them */
+    uint8_t words[64];                         /* [row words] b bits for each segment, L*g of them */
     zevgorim_process process[64];              /* N of them */
 } zevgorim_state;
 
-/* What a call answers, and the state after it. */
+/* An answer, and the state after the call. */
 typedef struct {
     uint8_t answer;
     zevgorim_state state;
@@ -83,7 +139,7 @@ typedef struct {
 /* The gate report. */
 typedef struct {
     uint8_t answer;
-    uint8_t free;   /* names still free at the gate */
+    uint8_t free;   /* names still free [pads still open] at the gate */
     uint8_t queued; /* processes queued there */
 } zevgorim_report;
 
@@ -106,38 +162,63 @@ typedef struct {
     size_t size;
 } zevgorim_part;
 
-/* The fresh state of a setup: N processes, L leaves, g segments in a leaf, b bits in a segment.
- * Refused with 1 to 5, the first that fails: the state is blank, every number 0, and every other call refuses it with 15. */
-zevgorim_done zevgorim_setup(uint8_t n, uint8_t l, uint8_t g, uint8_t b);
 
-/* The state after one event. Refused with 15 for the state, 12 for the kind, 6 for the process, then 7, 8 or 9, then 15 for the
- * step: the state comes back as it was. */
-zevgorim_done zevgorim_event(zevgorim_state state, uint8_t kind, uint8_t process);
+/* Setup */
 
-/* The state after a list of events, two bytes each: kind, process. The journal takes four bytes for each event: answer, then stage,
- * name and steps after it (255 for answers 6, 12 and 15); bytes past them are untouched. A refused event changes no state and the
- * list goes on. The list is refused with 14, 13 or 15: the state comes back as it was and the journal is untouched. */
+/* The fresh state of N processes, L leaves, g segments in a leaf and b bits in a segment.
+ * Refused with 1, 2, 3, 4, 5 in this order: the state is blank, every number 0, and no call accepts it. */
+zevgorim_done zevgorim_setup(uint32_t n, uint32_t l, uint32_t g, uint32_t b);
+
+
+/* Events: the state after one, or after a list. A refused call gives the state it was lent. */
+
+/* One event: its kind and its process. What it does is in docs/MACHINE.md.
+ * Refused with 15 for the state, 12 for the kind, 6 for the process, then 7, 8 or 9 by kind, then 15 for the step. */
+zevgorim_done zevgorim_event(zevgorim_state state, uint32_t kind, uint32_t process);
+
+/* The same with the kind given. Refused with 15, 6, then 7 (request), 8 (step) or 9 (release), then 15 for the step. */
+zevgorim_done zevgorim_request(zevgorim_state state, uint32_t process);
+zevgorim_done zevgorim_step(zevgorim_state state, uint32_t process);
+zevgorim_done zevgorim_release(zevgorim_state state, uint32_t process);
+
+/* A list of events, two bytes each: kind, process. A refused event changes no state and the list goes on.
+ * The journal takes four bytes for each event: its answer, then stage, name and steps of the process after it; these three are 255 for
+ * answers 6, 12 and 15. Bytes past them are untouched.
+ * Refused with 14 for the list, 13 for the journal (shorter than twice the list), 15 for the state: the journal is untouched. */
 zevgorim_done zevgorim_run(zevgorim_state state, const uint8_t *events, size_t events_len, uint8_t *journal, size_t journal_len);
+
+
+/* Reports: they change no state. */
 
 /* Names still free at the gate, and processes queued there. Refused with 15: both are 0. */
 zevgorim_report zevgorim_gate_report(zevgorim_state state);
 
-/* A record for each process in rising order; records from N on are untouched. Refused with 15, or 13 when there are fewer records than
- * processes: nothing is written. */
+/* A record [roll] for each process in rising order; records from N on are untouched. Gives the answer.
+ * Refused with 15, then 13 when there are fewer than N records: nothing is written. */
 uint8_t zevgorim_fill_status(zevgorim_state state, zevgorim_status *records, size_t records_len);
 
-/* The fresh state of a day file's setup. Refused with 10, 11, then 1 to 5: the state is blank. */
+
+/* The day file: a setup and its events, 27 to 32,767 bytes. */
+
+/* 0, or the number with which zevgorim_read_setup refuses the file. */
+uint8_t zevgorim_file_answer(const uint8_t *file, size_t file_len);
+
+/* The fresh state of the file's setup. Refused with 10, 11, then 1 to 5: the state is blank, as of a refused zevgorim_setup. */
 zevgorim_done zevgorim_read_setup(const uint8_t *file, size_t file_len);
 
-/* The events of a day file, as a part of it, for zevgorim_run. Of a refused file, offset and size are 0. */
+/* Where the file's events are, for zevgorim_run: offset 27 and the rest of the file. Of a refused file offset and size are 0. */
 zevgorim_part zevgorim_read_events(const uint8_t *file, size_t file_len);
 
-/* The lines of a journal, as the program `pads` prints them: answer, stage, name, steps in decimal, 255 as `-`. Bytes past the text
- * are untouched. Refused with 13 when the buffer is shorter than the text (16 bytes for each event are always enough): nothing is
- * written and the size is 0. */
+
+/* Texts, as the program pads prints them, in a lent buffer. Bytes past the text are untouched.
+ * Refused with 13 when the buffer is shorter than the text: nothing is written and the size is 0. */
+
+/* A line for each four bytes of a journal: answer, stage, name, steps in decimal, 255 as `-`. Fewer than four bytes at the end are left
+ * out. 16 bytes for each line are always enough. */
 zevgorim_text zevgorim_journal_text(const uint8_t *journal, size_t journal_len, uint8_t *out, size_t out_len);
 
-/* What `pads` prints for a day file: the lines of its journal, or `refused n`. Refused as zevgorim_journal_text is. */
+/* The lines of a day file's journal. 16 bytes for each event are always enough, 262,144 for every file.
+ * Of a file that zevgorim_file_answer refuses, `refused n` and a line feed, at most 11 bytes; the answer is then 0 too. */
 zevgorim_text zevgorim_file_text(const uint8_t *file, size_t file_len, uint8_t *out, size_t out_len);
 
 #ifdef __cplusplus
