@@ -31,10 +31,14 @@ static void print_roll(zevgorim_state state, size_t number) {
 }
 
 int main(int argc, char **argv) {
-    FILE *in = argc == 2 ? fopen(argv[1], "rb") : NULL;
-    if (in == NULL) {
+    if (argc != 2) {
         fprintf(stderr, "usage: morning FILE\n");
         return 2;
+    }
+    FILE *in = fopen(argv[1], "rb");
+    if (in == NULL) {
+        fprintf(stderr, "morning: cannot open %s\n", argv[1]);
+        return 1;
     }
     size_t size = fread(file, 1, sizeof file, in);
     fclose(in);

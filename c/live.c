@@ -1,0 +1,122 @@
+/* A box at work: a frame comes, one event is carried out, the state is saved, the reply goes out. Started again, it goes on from the
+ * state that it saved. Standard input stands for the radio: a line is a frame, `kind handset`. The reply is the line that pads prints
+ * for the event: answer, stage, pad, spent.
+ *
+ * The state is saved before the reply goes out, so that no handset has heard of a pad that the box can forget. */
+#define _POSIX_C_SOURCE 200809L
+#include <stdio.h>
+#include <stdlib.h>
+#include <string.h>
+#include <unistd.h>
+#include "zevgorim.h"
+
+/* What is stored: the state, and its check sum, low byte first. */
+enum { STATE_SIZE = sizeof(zevgorim_state), STORED_SIZE = STATE_SIZE + 4 };
+
+/* CRC-32 as in zip files. */
+static uint32_t check_sum(const uint8_t *bytes, size_t size) {
+    uint32_t sum = 0xffffffff;
+    for (size_t i = 0; i < size; i++) {
+        sum ^= bytes[i];
+        for (int bit = 0; bit < 8; bit++) sum = sum >> 1 ^ (sum & 1 ? 0xedb88320 : 0);
+    }
+    return ~sum;
+}
+
+static void put_sum(uint8_t *stored) {
+    uint32_t sum = check_sum(stored, STATE_SIZE);
+    for (int i = 0; i < 4; i++) stored[STATE_SIZE + i] = (uint8_t)(sum >> 8 * i);
+}
+
+/* Writes the state aside and renames, so that a stop at any moment leaves the old file or the new one. */
+static int save(const char *path, const zevgorim_state *state) {
+    char aside[4096];
+    if ((size_t)snprintf(aside, sizeof aside, "%s.new", path) >= sizeof aside) return 0;
+    uint8_t stored[STORED_SIZE];
+    memcpy(stored, state, STATE_SIZE);
+    put_sum(stored);
+    FILE *out = fopen(aside, "wb");
+    if (out == NULL) return 0;
+    int written = fwrite(stored, 1, STORED_SIZE, out) == STORED_SIZE && fflush(out) == 0 && fsync(fileno(out)) == 0;
+    return fclose(out) == 0 && written && rename(aside, path) == 0;
+}
+
+/* NULL where the saved state is restored, otherwise what is wrong with it. */
+static const char *restore(const char *path, const zevgorim_state *fresh, zevgorim_state *state) {
+    uint8_t stored[STORED_SIZE + 1], right[STORED_SIZE];
+    FILE *in = fopen(path, "rb");
+    if (in == NULL) return "no saved state";
+    size_t size = fread(stored, 1, sizeof stored, in);
+    fclose(in);
+    if (size != STORED_SIZE) return "saved state damaged";
+    memcpy(right, stored, STATE_SIZE);
+    put_sum(right);
+    if (memcmp(stored, right, STORED_SIZE) != 0) return "saved state damaged";
+    if (memcmp(stored, fresh, 4) != 0) return "saved state has another setup"; /* N, L, g and b come first */
+    memcpy(state, stored, STATE_SIZE);
+    return NULL;
+}
+
+/* The reply to an event: its journal entry, as a line. */
+static void reply(const zevgorim_done *done, uint32_t handset) {
+    uint8_t entry[4] = {done->answer, 255, 255, 255}, line[16];
+    int shown = done->answer != ZEVGORIM_KIND && done->answer != ZEVGORIM_STRANGER && done->answer != ZEVGORIM_BROKEN_STATE;
+    if (shown) {
+        const zevgorim_process *process = &done->state.process[handset];
+        entry[1] = process->stage;
+        entry[2] = process->name;
+        entry[3] = process->steps;
+    }
+    zevgorim_text text = zevgorim_journal_text(entry, sizeof entry, line, sizeof line);
+    fwrite(line, 1, text.size, stdout);
+    fflush(stdout);
+}
+
+/* Reads a number and moves past it; one of more than 32 bits becomes the largest, which every call refuses. */
+static int take_number(char **at, uint32_t *number) {
+    char *end;
+    unsigned long value = strtoul(*at, &end, 10);
+    if (end == *at) return 0;
+    *number = value < UINT32_MAX ? (uint32_t)value : UINT32_MAX;
+    *at = end;
+    return 1;
+}
+
+/* Frames until the input ends. */
+static int serve(const char *path, zevgorim_state state) {
+    char frame[64];
+    uint32_t kind, handset;
+    while (fgets(frame, sizeof frame, stdin) != NULL) {
+        char *at = frame;
+        if (!take_number(&at, &kind) || !take_number(&at, &handset) || *at != '\n') {
+            fprintf(stderr, "live: not a frame\n");
+            continue;
+        }
+        zevgorim_done done = zevgorim_event(state, kind, handset);
+        if (done.answer == ZEVGORIM_OK && !save(path, &done.state)) {
+            fprintf(stderr, "live: cannot save to %s\n", path);
+            return 1;
+        }
+        state = done.state;
+        reply(&done, handset);
+    }
+    return 0;
+}
+
+int main(int argc, char **argv) {
+    if (argc != 6) {
+        fprintf(stderr, "usage: live STATE-FILE HANDSETS LEAVES ROWS BITS\n");
+        return 2;
+    }
+    uint32_t number[4] = {0};
+    for (int i = 0; i < 4; i++) take_number(&argv[2 + i], &number[i]);
+    zevgorim_done fresh = zevgorim_setup(number[0], number[1], number[2], number[3]);
+    if (fresh.answer != ZEVGORIM_OK) {
+        fprintf(stderr, "live: setup refused: %u\n", fresh.answer);
+        return 1;
+    }
+    zevgorim_state state = fresh.state;
+    const char *wrong = restore(argv[1], &fresh.state, &state);
+    if (wrong != NULL) fprintf(stderr, "live: %s: fresh setup, every pad is open\n", wrong);
+    return serve(argv[1], state);
+}
