@@ -100,8 +100,11 @@ mod calls {
     use super::{Done, Part, Report, State, Text};
 
     extern "C" {
-        pub fn zevgorim_setup(n: u8, l: u8, g: u8, b: u8) -> Done;
-        pub fn zevgorim_event(state: State, kind: u8, process: u8) -> Done;
+        pub fn zevgorim_setup(n: u32, l: u32, g: u32, b: u32) -> Done;
+        pub fn zevgorim_event(state: State, kind: u32, process: u32) -> Done;
+        pub fn zevgorim_request(state: State, process: u32) -> Done;
+        pub fn zevgorim_step(state: State, process: u32) -> Done;
+        pub fn zevgorim_release(state: State, process: u32) -> Done;
         pub fn zevgorim_run(
             state: State,
             events: *const u8,
@@ -115,6 +118,7 @@ mod calls {
             records: *mut super::Status,
             records_len: usize,
         ) -> u8;
+        pub fn zevgorim_file_answer(file: *const u8, file_len: usize) -> u8;
         pub fn zevgorim_read_setup(file: *const u8, file_len: usize) -> Done;
         pub fn zevgorim_read_events(file: *const u8, file_len: usize) -> Part;
         pub fn zevgorim_journal_text(
@@ -149,13 +153,28 @@ impl State {
 }
 
 #[inline]
-pub fn setup(n: u8, l: u8, g: u8, b: u8) -> Done {
+pub fn setup(n: u32, l: u32, g: u32, b: u32) -> Done {
     unsafe { calls::zevgorim_setup(n, l, g, b) }
 }
 
 #[inline]
-pub fn event(state: State, kind: u8, process: u8) -> Done {
+pub fn event(state: State, kind: u32, process: u32) -> Done {
     unsafe { calls::zevgorim_event(state, kind, process) }
+}
+
+#[inline]
+pub fn request(state: State, process: u32) -> Done {
+    unsafe { calls::zevgorim_request(state, process) }
+}
+
+#[inline]
+pub fn step(state: State, process: u32) -> Done {
+    unsafe { calls::zevgorim_step(state, process) }
+}
+
+#[inline]
+pub fn release(state: State, process: u32) -> Done {
+    unsafe { calls::zevgorim_release(state, process) }
 }
 
 #[inline]
@@ -172,6 +191,11 @@ pub fn gate_report(state: State) -> Report {
 #[inline]
 pub fn fill_status(state: State, records: &mut [Status]) -> u8 {
     unsafe { calls::zevgorim_fill_status(state, records.as_mut_ptr(), records.len()) }
+}
+
+#[inline]
+pub fn file_answer(file: &[u8]) -> u8 {
+    unsafe { calls::zevgorim_file_answer(file.as_ptr(), file.len()) }
 }
 
 #[inline]

@@ -90,7 +90,7 @@ impl Bout {
         let side = &mut self.archive;
         let mut state = side.fresh;
         for event in self.events.chunks_exact(2) {
-            let done = archive::event(state, event[0], event[1]);
+            let done = archive::event(state, event[0].into(), event[1].into());
             side.answers += u64::from(done.answer);
             state = done.state;
         }

@@ -105,6 +105,12 @@ impl Differ {
             Err(number) => (number, State::BLANK, &file[..0]),
         };
         self.tally.refused_files += u64::from(answer != 0);
+        same(
+            "the day file's answer alone",
+            archive::file_answer(file),
+            answer,
+        )?;
+        self.tally.file_answers += 1;
         let got = archive::read_setup(file);
         same("the day file's answer", got.answer, answer)?;
         same_state("the day file's setup", got.state, &state)?;

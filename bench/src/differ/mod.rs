@@ -2,6 +2,7 @@
 
 mod difference;
 mod files;
+mod large;
 mod lent;
 mod rolls;
 mod runs;
@@ -90,6 +91,7 @@ impl Differ {
         for _ in 0..8 {
             let setup = lists::any_setup(&mut self.rng);
             self.setup(setup)?;
+            self.large_setup(setup)?;
         }
         Ok(())
     }
@@ -101,6 +103,7 @@ impl Differ {
             Ok(state) => (0, state),
             Err(number) => (number, State::BLANK),
         };
+        let [n, l, g, b] = setup.map(u32::from);
         let got = archive::setup(n, l, g, b);
         self.tally.setups += 1;
         self.tally.refused_setups += u64::from(answer != 0);

@@ -6,7 +6,7 @@ use simulator::State;
 use super::difference::{same, same_state, Check, Difference};
 use super::lent::Lent;
 use super::Differ;
-use crate::archive;
+use crate::archive::{self, Done};
 use crate::lists::{fresh, Setup, MOST_EVENTS};
 
 /// The archive's state of the same image.
@@ -46,15 +46,34 @@ fn same_entries(events: &[u8], got: &[u8], expected: &[u8]) -> Check {
     Ok(())
 }
 
-/// The event call on a state, which becomes the one after it: the answer, if
-/// it and the state are the same.
+/// The call of one kind, where the kind has one.
+fn by_kind(state: archive::State, kind: u8, process: u8) -> Option<Done> {
+    let call = match kind {
+        0 => archive::request,
+        1 => archive::step,
+        2 => archive::release,
+        _ => return None,
+    };
+    Some(call(state, process.into()))
+}
+
+/// The event call on a state, which becomes the one after it, and the call of
+/// its kind: the answer, if it and the state are the same.
 fn event(state: &mut State, number: usize, kind: u8, process: u8) -> Result<u8, Difference> {
-    let got = archive::event(of(state), kind, process);
+    let lent = of(state);
     let answer = state.event(kind, process);
-    let event =
-        format_args!("event {number} (the first is 0) by itself, kind {kind}, process {process}");
-    same(format_args!("{event}: the answer"), got.answer, answer)?;
-    same_state(event, got.state, state)?;
+    let by_event = archive::event(lent, kind.into(), process.into());
+    let calls = [
+        ("by itself", Some(by_event)),
+        ("by the call of its kind", by_kind(lent, kind, process)),
+    ];
+    for (how, got) in calls {
+        let Some(got) = got else { continue };
+        let event =
+            format_args!("event {number} (the first is 0) {how}, kind {kind}, process {process}");
+        same(format_args!("{event}: the answer"), got.answer, answer)?;
+        same_state(event, got.state, state)?;
+    }
     Ok(answer)
 }
 
@@ -129,7 +148,7 @@ impl Differ {
         for (number, pair) in events.chunks_exact(2).enumerate() {
             let answer = event(&mut state, number, pair[0], pair[1])
                 .map_err(|found| as_file(found, setup, events))?;
-            self.tally.add_event(answer);
+            self.tally.add_event(pair[0], answer);
         }
         Ok(())
     }
@@ -185,7 +204,7 @@ impl Differ {
         let image = state.to_image();
         let answer =
             event(state, 0, kind, process).map_err(|found| found.given_figures("state", &image))?;
-        self.tally.add_event(answer);
+        self.tally.add_event(kind, answer);
         Ok(())
     }
 }

@@ -99,7 +99,8 @@ impl Differ {
             self.any_event(&mut after, pair[0], pair[1])?;
         }
         let [kind, process] = [self.rng.byte(), self.rng.byte()];
-        self.any_event(&mut after, kind, process)
+        self.any_event(&mut after, kind, process)?;
+        self.large_event(&after)
     }
 
     /// The gate report and the roll.

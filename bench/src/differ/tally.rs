@@ -2,14 +2,21 @@
 
 use std::fmt;
 
+/// What an event can answer.
+const EVENT_ANSWERS: [usize; 7] = [0, 6, 7, 8, 9, 12, 15];
+
 #[derive(Default)]
 pub struct Tally {
     pub setups: u64,
     pub refused_setups: u64,
+    pub large_setups: u64,
     pub lists: u64,
     pub refused_lists: u64,
     pub list_events: u64,
     pub single_events: u64,
+    /// Single events by request, step and release, too.
+    pub kinds: [u64; 3],
+    pub large_events: u64,
     /// Events by their answer, in lists and one at a time.
     pub answers: [u64; 16],
     pub states: u64,
@@ -18,8 +25,12 @@ pub struct Tally {
     pub rolls: u64,
     pub files: u64,
     pub refused_files: u64,
+    pub file_answers: u64,
     pub texts: u64,
 }
+
+/// What was compared, how often, and how often a part of it.
+type Line = (&'static str, u64, Option<(&'static str, u64)>);
 
 impl Tally {
     /// Adds the events of an accepted list, by its journal.
@@ -31,9 +42,39 @@ impl Tally {
     }
 
     /// Adds an event by itself.
-    pub fn add_event(&mut self, answer: u8) {
+    pub fn add_event(&mut self, kind: u8, answer: u8) {
         self.single_events += 1;
         self.answers[usize::from(answer & 15)] += 1;
+        if let Some(count) = self.kinds.get_mut(usize::from(kind)) {
+            *count += 1;
+        }
+    }
+
+    /// Every kind of comparison.
+    fn lines(&self) -> [Line; 15] {
+        let refused = |count| Some(("refused", count));
+        let [request, step, release] = self.kinds;
+        [
+            ("setups", self.setups, refused(self.refused_setups)),
+            ("setups with a number above 255", self.large_setups, None),
+            ("lists", self.lists, refused(self.refused_lists)),
+            ("events in lists", self.list_events, None),
+            ("events one at a time", self.single_events, None),
+            ("events by `request`", request, None),
+            ("events by `step`", step, None),
+            ("events by `release`", release, None),
+            ("events with a number above 255", self.large_events, None),
+            (
+                "hand-made states",
+                self.states,
+                Some(("broken", self.broken_states)),
+            ),
+            ("gate reports", self.reports, None),
+            ("rolls", self.rolls, None),
+            ("day files", self.files, refused(self.refused_files)),
+            ("answers of day files alone", self.file_answers, None),
+            ("texts in lent buffers", self.texts, None),
+        ]
     }
 
     /// Each answer that events had, and how many had it.
@@ -42,34 +83,29 @@ impl Tally {
         let words: Vec<String> = seen.map(|(answer, n)| format!("{n} of {answer}")).collect();
         words.join(", ")
     }
+
+    /// What did not come up.
+    fn missing(&self) -> Vec<String> {
+        let mut missing = Vec::new();
+        for (what, count, part) in self.lines() {
+            match part {
+                _ if count == 0 => missing.push(what.to_string()),
+                Some((word, 0)) => missing.push(format!("{word} {what}")),
+                _ => {}
+            }
+        }
+        for answer in EVENT_ANSWERS {
+            if self.answers[answer] == 0 {
+                missing.push(format!("events answered {answer}"));
+            }
+        }
+        missing
+    }
 }
 
 impl fmt::Display for Tally {
     fn fmt(&self, out: &mut fmt::Formatter) -> fmt::Result {
-        let lines = [
-            (
-                "setups",
-                self.setups,
-                Some(("refused", self.refused_setups)),
-            ),
-            ("lists", self.lists, Some(("refused", self.refused_lists))),
-            ("events in lists", self.list_events, None),
-            ("events one at a time", self.single_events, None),
-            (
-                "hand-made states",
-                self.states,
-                Some(("broken", self.broken_states)),
-            ),
-            ("gate reports", self.reports, None),
-            ("rolls", self.rolls, None),
-            (
-                "day files",
-                self.files,
-                Some(("refused", self.refused_files)),
-            ),
-            ("texts in lent buffers", self.texts, None),
-        ];
-        for (what, count, part) in lines {
+        for (what, count, part) in self.lines() {
             write!(out, "{what}: {count}")?;
             if let Some((word, part)) = part {
                 write!(out, " ({part} {word})")?;
@@ -77,6 +113,9 @@ impl fmt::Display for Tally {
             writeln!(out)?;
         }
         writeln!(out, "answers to events: {}", self.answers())?;
-        writeln!(out, "all agree")
+        for what in self.missing() {
+            writeln!(out, "not compared: {what}")?;
+        }
+        writeln!(out, "all that was compared agrees")
     }
 }

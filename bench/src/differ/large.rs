@@ -1,0 +1,97 @@
+//! Numbers above 255, which no state and no byte of a list has: the calls
+//! refuse them with the papers' numbers.
+
+use simulator::random::Random;
+use simulator::State;
+
+use super::difference::{same, same_state, Check};
+use super::runs::of;
+use super::Differ;
+use crate::archive::{self, Done};
+use crate::lists::Setup;
+
+const STRANGER: u8 = 6;
+const KIND: u8 = 12;
+const BROKEN_STATE: u8 = 15;
+
+/// A number above 255; its low byte is often one that a call accepts.
+fn large(rng: &mut Random) -> u32 {
+    match rng.below(4) {
+        0 => 256 + rng.below(256) as u32,
+        1 => 256 << rng.below(24),
+        2 => u32::MAX - rng.below(256) as u32,
+        _ => (rng.draw() as u32).max(256),
+    }
+}
+
+/// The number of a setup's first check that fails, as document 01 has them;
+/// 0 where none of the first four does.
+fn setup_answer([n, l, g, b]: [u32; 4]) -> u8 {
+    let holds = [
+        (1..=64).contains(&n),
+        [1, 2, 4, 8, 16].contains(&l),
+        (1..=8).contains(&g),
+        (1..=8).contains(&b),
+    ];
+    let failing = holds.iter().position(|holds| !holds);
+    failing.map_or(0, |place| place as u8 + 1)
+}
+
+/// What an event with a large number answers.
+fn event_answer(state: &State, kind: u32) -> u8 {
+    match kind {
+        _ if !state.in_range() => BROKEN_STATE,
+        0..=2 => STRANGER,
+        _ => KIND,
+    }
+}
+
+impl Differ {
+    /// The setup with one number or more above 255.
+    pub fn large_setup(&mut self, setup: Setup) -> Check {
+        let mut numbers = setup.map(u32::from);
+        numbers[self.rng.below(4)] = large(&mut self.rng);
+        if self.rng.chance(1, 4) {
+            numbers[self.rng.below(4)] = large(&mut self.rng);
+        }
+        let [n, l, g, b] = numbers;
+        let got = archive::setup(n, l, g, b);
+        self.tally.large_setups += 1;
+        same(
+            "the answer to a large number",
+            got.answer,
+            setup_answer(numbers),
+        )
+        .and_then(|()| same_state("a setup with a large number", got.state, &State::BLANK))
+        .map_err(|found| found.given("setup", format_args!("{numbers:?}")))
+    }
+
+    /// An event with a large process, a large kind or both, on any state.
+    pub fn large_event(&mut self, state: &State) -> Check {
+        let kind = self.rng.below(3) as u32;
+        let process = large(&mut self.rng);
+        let lent = of(state);
+        let by_kind = [archive::request, archive::step, archive::release][kind as usize];
+        self.refused(state, kind, process, by_kind(lent, process))?;
+        self.refused(state, kind, process, archive::event(lent, kind, process))?;
+        let kind = large(&mut self.rng);
+        let process = match self.rng.below(4) {
+            0 => process,
+            _ => self.rng.byte_below(64).into(),
+        };
+        self.refused(state, kind, process, archive::event(lent, kind, process))
+    }
+
+    /// The answer is the papers', and the state as it was.
+    fn refused(&mut self, state: &State, kind: u32, process: u32, got: Done) -> Check {
+        self.tally.large_events += 1;
+        let expected = event_answer(state, kind);
+        same("the answer to a large number", got.answer, expected)
+            .and_then(|()| same_state("an event with a large number", got.state, state))
+            .map_err(|found| {
+                found
+                    .given("kind and process", format_args!("{kind} {process}"))
+                    .given_figures("state", &state.to_image())
+            })
+    }
+}
