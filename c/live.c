@@ -4,6 +4,7 @@
  *
  * The state is saved before the reply goes out, so that no handset has heard of a pad that the box can forget. */
 #define _POSIX_C_SOURCE 200809L
+#include <fcntl.h>
 #include <stdio.h>
 #include <stdlib.h>
 #include <string.h>
@@ -11,7 +12,7 @@
 #include "zevgorim.h"
 
 /* What is stored: the state, and its check sum, low byte first. */
-enum { STATE_SIZE = sizeof(zevgorim_state), STORED_SIZE = STATE_SIZE + 4 };
+enum { STATE_SIZE = sizeof(zevgorim_state), STORED_SIZE = STATE_SIZE + 4, PATH_SIZE = 4096 };
 
 /* CRC-32 as in zip files. */
 static uint32_t check_sum(const uint8_t *bytes, size_t size) {
@@ -28,9 +29,21 @@ static void put_sum(uint8_t *stored) {
     for (int i = 0; i < 4; i++) stored[STATE_SIZE + i] = (uint8_t)(sum >> 8 * i);
 }
 
+/* Writes out the folder of a file, so that its new name lasts. */
+static int sync_folder(const char *path) {
+    char folder[PATH_SIZE] = ".";
+    const char *slash = strrchr(path, '/');
+    if (slash != NULL) snprintf(folder, sizeof folder, "%.*s", (int)(slash - path) + 1, path);
+    int fd = open(folder, O_RDONLY);
+    if (fd < 0) return 0;
+    int synced = fsync(fd) == 0;
+    close(fd);
+    return synced;
+}
+
 /* Writes the state aside and renames, so that a stop at any moment leaves the old file or the new one. */
 static int save(const char *path, const zevgorim_state *state) {
-    char aside[4096];
+    char aside[PATH_SIZE];
     if ((size_t)snprintf(aside, sizeof aside, "%s.new", path) >= sizeof aside) return 0;
     uint8_t stored[STORED_SIZE];
     memcpy(stored, state, STATE_SIZE);
@@ -38,7 +51,7 @@ static int save(const char *path, const zevgorim_state *state) {
     FILE *out = fopen(aside, "wb");
     if (out == NULL) return 0;
     int written = fwrite(stored, 1, STORED_SIZE, out) == STORED_SIZE && fflush(out) == 0 && fsync(fileno(out)) == 0;
-    return fclose(out) == 0 && written && rename(aside, path) == 0;
+    return fclose(out) == 0 && written && rename(aside, path) == 0 && sync_folder(path);
 }
 
 /* NULL where the saved state is restored, otherwise what is wrong with it. */
@@ -53,7 +66,10 @@ static const char *restore(const char *path, const zevgorim_state *fresh, zevgor
     put_sum(right);
     if (memcmp(stored, right, STORED_SIZE) != 0) return "saved state damaged";
     if (memcmp(stored, fresh, 4) != 0) return "saved state has another setup"; /* N, L, g and b come first */
-    memcpy(state, stored, STATE_SIZE);
+    zevgorim_state saved;
+    memcpy(&saved, stored, STATE_SIZE);
+    if (zevgorim_gate_report(saved).answer != ZEVGORIM_OK) return "saved state broken";
+    *state = saved;
     return NULL;
 }
 
@@ -93,6 +109,7 @@ static int serve(const char *path, zevgorim_state state) {
             continue;
         }
         zevgorim_done done = zevgorim_event(state, kind, handset);
+        /* a refused event changes nothing */
         if (done.answer == ZEVGORIM_OK && !save(path, &done.state)) {
             fprintf(stderr, "live: cannot save to %s\n", path);
             return 1;

@@ -98,9 +98,9 @@ enum {
 /* The name of a process that holds none. */
 #define ZEVGORIM_NO_NAME 255
 
-/* Bytes of stack that a call takes below its return address, rounded up. Measured by c/stack.c, which looks how deep a painted stack
- * was written, with glibc's memcpy and memset; c/run fails where a call takes more. What the C compiler takes in the caller's frame
- * for the state handed over (470 bytes) and the result (471 bytes) comes on top. */
+/* Bytes of stack that a call takes below its return address, rounded up. They are measured, not proved: c/stack.c looks how deep a
+ * painted stack was written, with the archive as the toolchain compiles it (-O3) and glibc's memcpy and memset, and c/run fails where a
+ * call takes more. What the caller's own frame has for the state handed over (470 bytes) and the result (471 bytes) comes on top. */
 enum {
     ZEVGORIM_STACK_SETUP = 1024,
     ZEVGORIM_STACK_EVENT = 1280,  /* event, request, step, release, run */
