@@ -7,17 +7,18 @@
  * What you may rely on
  *
  * N processes, L leaves, g segments in a leaf, b bits in a segment; k = L*g*b names; h is the tree's height, 2^h = L. After every
- * list of calls from an accepted setup, in whatever order the processes move, refused calls included:
+ * list of events from an accepted setup, carried out one at a time or in lists, in whatever order, refused ones included:
  *
  *   - At most k processes are admitted [let in]: in stages 3 to 6, or in stage 2 and no longer in the queue.
  *   - The names [pads] of working processes [holders] are below k and all unlike.
  *   - No process is exhausted [astray].
- *   - If at no moment, at the start or after a call, more than m processes were admitted, every name held is below m.
- *   - The steps [spent] of a process are the steps it made in getname [claiming] since its last accepted request. A working process has
- *     from h + 1 to h + g.
+ *   - If at no moment, at the start or directly after an event, more than m processes were admitted, every name held is below m.
+ *   - The number steps [spent] of a process counts its steps [turns] in getname [claiming] since its last accepted request [ask]. Of a
+ *     working process it is from h + 1 to h + g.
  *   - A process in getname holds a name directly after one of the next h + g steps given to it at the latest, whatever comes between.
  *
- * This, what each call below gives and writes, and that every call ends, is proved of the Rattle source for every argument.
+ * This, what each call below gives and writes, and that every call ends, is proved of the Rattle source, for every argument that keeps
+ * to `Lent memory` below.
  *
  *
  * What you must do for it
@@ -30,7 +31,7 @@
  *
  * Platform
  *
- *   - x86-64 Linux, System V ABI: the toolchain compiles for nothing else.
+ *   - x86-64 Linux, System V ABI, on any x86-64 processor: the toolchain compiles for nothing else.
  *   - The archive needs memcpy and memset from outside, and nothing else.
  *   - It keeps nothing between calls: no heap, no static data but constants, no locks, no system calls. Calls may run in several threads
  *     at once, as long as none writes to a buffer that another is lent.
@@ -39,9 +40,9 @@
  *
  * Lent memory
  *
- * A buffer is a pointer and, right after it, its length in elements. The pointer is never NULL, with length 0 neither; otherwise a length
- * of 0 asks nothing of it. The elements must be there, and change by no other hand, for the time of the call. What a call writes to must
- * not overlap what it reads.
+ * A buffer is a pointer and, right after it, its length in elements. The pointer must not be NULL, not with length 0 either; beyond that
+ * a length of 0 asks nothing of it. The elements must be there, and change by no other hand, for the time of the call. What a call writes
+ * to must not overlap what it reads.
  */
 #ifndef ZEVGORIM_H
 #define ZEVGORIM_H
