@@ -4,13 +4,16 @@
 #include <string.h>
 #include "zevgorim.h"
 
-_Static_assert(sizeof(zevgorim_process) == 5 && offsetof(zevgorim_process, steps) == 4, "process");
+_Static_assert(sizeof(zevgorim_process) == 5 && offsetof(zevgorim_process, stage) == 0, "process");
+_Static_assert(offsetof(zevgorim_process, node) == 1 && offsetof(zevgorim_process, segment) == 2, "process");
+_Static_assert(offsetof(zevgorim_process, name) == 3 && offsetof(zevgorim_process, steps) == 4, "process");
 _Static_assert(sizeof(zevgorim_state) == 470, "state");
 _Static_assert(offsetof(zevgorim_state, gate) == 4 && offsetof(zevgorim_state, queued) == 5, "gate");
 _Static_assert(offsetof(zevgorim_state, queue) == 6 && offsetof(zevgorim_state, counters) == 70, "queue, counters");
 _Static_assert(offsetof(zevgorim_state, words) == 86 && offsetof(zevgorim_state, process) == 150, "words, processes");
 _Static_assert(sizeof(zevgorim_done) == 471 && offsetof(zevgorim_done, state) == 1, "done");
-_Static_assert(sizeof(zevgorim_report) == 3 && sizeof(zevgorim_status) == 3, "report, status");
+_Static_assert(sizeof(zevgorim_report) == 3 && offsetof(zevgorim_report, free) == 1, "report");
+_Static_assert(sizeof(zevgorim_status) == 3 && offsetof(zevgorim_status, name) == 1, "status");
 _Static_assert(sizeof(zevgorim_text) == 16 && offsetof(zevgorim_text, size) == 8, "text");
 _Static_assert(sizeof(zevgorim_part) == 16 && offsetof(zevgorim_part, size) == 8, "part");
 
