@@ -138,7 +138,7 @@ static void check_edges(void) {
     is("garbage given back", memcmp(&back.state, &garbage, sizeof garbage), 0);
 }
 
-/* a day file with the setup of document 01's worked one and its first two events */
+/* a day file of two events */
 static void check_file(void) {
     static const uint8_t file[] = {'T', 'U', 'R', 'N', 2, 1, 23, 0, 0, 0, 4, 0, 0, 0, 2, 27, 0, 0, 0, 4, 0, 0, 0, 2, 1, 1, 1, 0, 0, 1, 0};
     static const char text[] = "0 1 - 0\n0 3 - 0\n";

@@ -1,6 +1,6 @@
 /* The pad claim of the finish box, for C on x86-64 Linux. Links with libzevgorim.a, which `rt staticlib zevgorim` writes.
  *
- * A process is a recorder's handset, a name is a pad. The box's own words (document 01) stand beside ours below, in brackets.
+ * A process is a recorder's handset, a name is a pad. The box's own words stand beside ours below, in brackets.
  * docs/MACHINE.md has the machine, the formats and the numbers. c/live.c is a box at work, c/morning.c a replay of a day file.
  *
  *

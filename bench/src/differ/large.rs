@@ -1,5 +1,5 @@
-//! Numbers above 255, which no state and no byte of a list has: the calls
-//! refuse them with the papers' numbers.
+//! Numbers above 255, which no byte of a list has: the calls refuse them with
+//! the numbers of docs/MACHINE.md.
 
 use simulator::random::Random;
 use simulator::State;
@@ -24,8 +24,8 @@ fn large(rng: &mut Random) -> u32 {
     }
 }
 
-/// The number of a setup's first check that fails, as document 01 has them;
-/// 0 where none of the first four does.
+/// The number of a setup's first check that fails; 0 where none of the first
+/// four does.
 fn setup_answer([n, l, g, b]: [u32; 4]) -> u8 {
     let holds = [
         (1..=64).contains(&n),
@@ -82,7 +82,7 @@ impl Differ {
         self.refused(state, kind, process, archive::event(lent, kind, process))
     }
 
-    /// The answer is the papers', and the state as it was.
+    /// The answer is the right number, and the state as it was.
     fn refused(&mut self, state: &State, kind: u32, process: u32, got: Done) -> Check {
         self.tally.large_events += 1;
         let expected = event_answer(state, kind);
