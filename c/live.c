@@ -4,6 +4,7 @@
  *
  * The state is saved before the reply goes out, so that no handset has heard of a pad that the box can forget. */
 #define _POSIX_C_SOURCE 200809L
+#include <errno.h>
 #include <fcntl.h>
 #include <stdio.h>
 #include <stdlib.h>
@@ -58,7 +59,7 @@ static int save(const char *path, const zevgorim_state *state) {
 static const char *restore(const char *path, const zevgorim_state *fresh, zevgorim_state *state) {
     uint8_t stored[STORED_SIZE + 1], right[STORED_SIZE];
     FILE *in = fopen(path, "rb");
-    if (in == NULL) return "no saved state";
+    if (in == NULL) return errno == ENOENT ? "no saved state" : "saved state cannot be read";
     size_t size = fread(stored, 1, sizeof stored, in);
     fclose(in);
     if (size != STORED_SIZE) return "saved state damaged";
@@ -121,12 +122,13 @@ static int serve(const char *path, zevgorim_state state) {
 }
 
 int main(int argc, char **argv) {
-    if (argc != 6) {
+    uint32_t number[4] = {0};
+    int understood = argc == 6;
+    for (int i = 0; understood && i < 4; i++) understood = take_number(&argv[2 + i], &number[i]) && *argv[2 + i] == 0;
+    if (!understood) {
         fprintf(stderr, "usage: live STATE-FILE HANDSETS LEAVES ROWS BITS\n");
         return 2;
     }
-    uint32_t number[4] = {0};
-    for (int i = 0; i < 4; i++) take_number(&argv[2 + i], &number[i]);
     zevgorim_done fresh = zevgorim_setup(number[0], number[1], number[2], number[3]);
     if (fresh.answer != ZEVGORIM_OK) {
         fprintf(stderr, "live: setup refused: %u\n", fresh.answer);
