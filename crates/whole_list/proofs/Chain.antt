@@ -2,7 +2,7 @@
 -- on the chain. Chains join. Assumes nothing.
 use mathlib.Core.Path.{_≡_, refl, sym, ap, subst, _∙_}
 use mathlib.Core.Logic.{_≢_}
-use mathlib.Core.List.{List, [], _∷_, _++_, append-assoc}
+use mathlib.Core.List.{List, _∷_, _++_, append-assoc}
 use denote.Ref.{now}
 use Rattle.machine.specs.Lists.{Event, eventDone, after}
 use Rattle.machine.specs.declared.Done.{Done}

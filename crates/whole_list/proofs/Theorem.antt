@@ -2,7 +2,7 @@
 -- a list call that is accepted does what the chain of its events does, and one that is refused does nothing. Assumes nothing.
 use mathlib.Core.Path.{_≡_, sym, ap, subst, _∙_}
 use mathlib.Core.List.{List, [], _++_, map, append-nil}
-use Prim.Native.Nat.{ℕ, suc, _+_, _≤_, _<_}
+use Prim.Native.Nat.{ℕ, suc, _+_}
 use lib.ListN.{length, take, drop}
 use lib.Seq.{take-length}
 use denote.Ref.{now}
@@ -13,7 +13,7 @@ use Rattle.machine.specs.State.{processAt, fresh}
 use Rattle.machine.specs.declared.Done.{Done}
 use Rattle.machine.specs.declared.State.{State}
 use Rattle.renaming_claim.specs.Claim.{Claim, afterList}
-use Rattle.renaming_claim.specs.History.{stepsGiven, HoldsWithin}
+use Rattle.renaming_claim.specs.History.{HoldsWithin}
 use Rattle.renaming_claim.proofs.Theorem as claim
 use Rattle.whole_list.specs.Calls.{SetUp, ListCall, listed, resultsOf, Calls, none, list, stateAt, entriesOf}
 use Rattle.whole_list.specs.Whole.{Whole, Listed, ownState}
@@ -57,7 +57,7 @@ module _ (n l g b : ℕ) (d₀ : Done) (set : SetUp n l g b d₀) (accepted : d�
         wins = λ p k st fs gs u more given.
             held-own more
             (subst (λ (x : State). HoldsWithin (height l + g) (after x) p fs) (sym ended)
-            (holds-after p k (subst (λ (x : State). processAt x p .stage ≡ getname) ended st) fs given));
+            (claimed es .wins p k (subst (λ (x : State). processAt x p .stage ≡ getname) ended st) fs given));
       }
     where
       s : State
@@ -69,9 +69,8 @@ module _ (n l g b : ℕ) (d₀ : Done) (set : SetUp n l g b d₀) (accepted : d�
       ended : t ≡ afterList n l g b es
       ended = end-is calls ∙ ap (λ (x : State). after x es) start
 
-      holds-after : (p : ℕ) → p < n → processAt (afterList n l g b es) p .stage ≡ getname → (fs : List Event) → height l + g ≤ stepsGiven p fs
-          → HoldsWithin (height l + g) (after (afterList n l g b es)) p fs
-      holds-after = claim.theorem n l g b (passed n l g b d₀ set accepted) es .wins
+      claimed : (fs : List Event) → Claim n l g b (afterList n l g b) fs
+      claimed = claim.theorem n l g b (passed n l g b d₀ set accepted)
 
       owned : (i : ℕ) → ((j : ℕ) → afterList n l g b (take j (take i es)) ≡ ownState s ds (take j (take i es)))
           → Claim n l g b (ownState s ds) (take i es)
@@ -79,7 +78,7 @@ module _ (n l g b : ℕ) (d₀ : Done) (set : SetUp n l g b d₀) (accepted : d�
           agrees n l g b (afterList n l g b) (ownState s ds) (take i es)
           (subst (λ (fs : List Event). afterList n l g b fs ≡ ownState s ds fs) (take-length (take i es)) (same (length (take i es))))
           same
-          (claim.theorem n l g b (passed n l g b d₀ set accepted) (take i es))
+          (claimed (take i es))
 
   -- one list call on the setup's own state, as a chain
   pub one-list : (d : Done) (c : ListCall (d₀ .state) d) → d .answer ≡ 0
