@@ -73,9 +73,9 @@ module _ (n l g b : ℕ) (accepted : setupAnswer n l g b ≡ 0) where
         held-below = λ p k e. omega (arith, name-below (sound es .reach) (sound es .inv) p (known es p k) e, names-are es);
         held-unlike = λ p q k j d e f. names-unlike (sound es .reach) (sound es .inv) p q (known es p k) (known es q j) d e f;
         none-astray = λ p k. not-exhausted (sound es .reach) (sound es .inv) p (known es p k);
-        held-low = λ m few p k e. name-low (sound es .reach) (low es m few) p (known es p k) e;
+        held-low = λ m few p k e. omega (arith, name-low (sound es .reach) (low es m few) p (known es p k) e);
         steps-counted = counted es;
         steps-least = λ p k e. omega (arith, least-steps (mover (sound es) (known es p k)) e, height-is es);
         steps-most = λ p k e. omega (arith, most-steps (mover (sound es) (known es p k)), bound-is es);
-        wins = λ p k e fs given. list-wins (height l + g) (t es) (sound es) p (known es p k) e fs (omega (arith, bound-is es)) given;
+        wins = λ p k e fs given. list-wins (height l + g) (t es) (sound es) p (known es p k) e fs (omega (arith, bound-is es)) (omega (arith, given));
       }

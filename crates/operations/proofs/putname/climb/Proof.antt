@@ -1,6 +1,6 @@
 -- `climb` meets its contract: the counter rises below its fresh value, or 15. Assumes nothing.
-use borrow.Author.Tests.{lt-ltb, le-ltb}
 use Rattle.operations.specs.Moves.{climbed}
+use Rattle.operations.proofs.Rules.{tests}
 use borrow.Author.Needs.{needs}
 use Rattle.operations.proofs.putname.climb.Statement.{statement}
 use Rattle.operations.proofs.putname.climb.Tie as tie
@@ -13,11 +13,11 @@ add-t8 c = search needs
 
 returns : tie.Need-returns
 unfolding climbed
-returns c = simp (lt-ltb _ _ (rw (c .before .fresh-counter .ensures) at (c .if1 .taken)))
+returns c = search (tests, rw (c .before .fresh-counter .ensures) at (c .if1 .taken))
 
 returns-2 : tie.Need-returns-2
 unfolding climbed
-returns-2 c = simp (le-ltb _ _ (rw (c .before .fresh-counter .ensures) at (c .if1 .left)))
+returns-2 c = search (tests, rw (c .before .fresh-counter .ensures) at (c .if1 .left))
 
 pub climb-spec : {M : Type 1} → statement M
 climb-spec = tie.close (tie.spec fresh-counter-requires add-t8 returns returns-2)

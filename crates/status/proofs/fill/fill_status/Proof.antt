@@ -191,6 +191,7 @@ module _ {M : Type 1} (𝓤 : URA M) (H : Heap 𝓤) (A : Atoms 𝓤) (W : Given
   module _ (g : Is Q st (mach ∷ [])) (room : Room R len) where
     exits : (r : ℕ) (zs : List Status) → r < 2 ^ 8 → length zs ≡ len → (r ≡ statusAnswer st ys) × (zs ≡ statusList st ys)
         → ent 𝓤 (⋆ 𝓤 H A (lent zs)) (Post (vint w8 r))
+    unfolding statusList
     exits r zs r-fits e said =
         qed W (lent zs) ∵
         suffices ! _ (ends-at 𝓤 H A fill′.ended stayed (fill′.clauses 𝓤 H A memory run) W (((κ, tt), (q, tt), tt, a, vals), tt) (vint w8 r) r (tt, (zs, tt)) (tt, (e, tt))) $ says ! said $
