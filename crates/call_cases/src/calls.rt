@@ -8,30 +8,42 @@ use machine::State;
 use renaming::event;
 use renaming::list;
 use renaming::report;
-ghost use Prim.Native.Nat.{_≤_};
+ghost use mathlib.Core.Path.{_≡_};
 ghost use lib.ListN.{length};
 
-// Begins a line with the call's word, its answer and the digest of the state that it gave back.
-fn put_done(text: &mut [u8; 6000], word: &[u8], done: Done) -> usize
-    requires { ⌜ length (now word) ≤ 10 ⌝ }
-    ensures { λ r. ⌜ r ≤ 52 ⌝ }
-{
-    let state = done.state;
-    let a = line::put_text(text, 0, word);
-    let b = line::put_byte(text, a, done.answer);
-    line::put_figure(text, b, image::digest(state))
+// Prints a line; false where that fails.
+fn print(word: &[u8], numbers: &[u64]) -> bool {
+    let mut text = [0u8; 6000];
+    let n = line::put_line(&mut text, word, numbers);
+    io::write_all(1, &text[..n])
 }
 
-// An event.
+// An event: the answer, and the digest of the state that it gave back.
 fn event_call(state: State) -> bool {
     let mut given = [0u8; 2];
     if io::read_full(0, &mut given) < 2 {
         return false;
     }
     let done = event::event(state, given[0], given[1]);
-    let mut text = [0u8; 6000];
-    let end = put_done(&mut text, b"event", done);
-    line::finish(&mut text, end)
+    let after = done.state;
+    let numbers = [input::number(done.answer), image::digest(after)];
+    print(b"event", &numbers)
+}
+
+// The answer of a list, the digest of the state that it gave back, and the journal.
+fn list_numbers(done: Done, journal: &[u8; 255]) -> [u64; 257]
+    ensures { λ r. ⌜ 257 ≡ length r ⌝ }
+{
+    let after = done.state;
+    let mut numbers = [0u64; 257];
+    numbers[0] = input::number(done.answer);
+    numbers[1] = image::digest(after);
+    let mut i = 0;
+    while i < 255 {
+        numbers[i + 2] = input::number(journal[i]);
+        i += 1;
+    }
+    numbers
 }
 
 // A list. Journal bytes that the call leaves untouched show as 170.
@@ -48,21 +60,20 @@ fn list_call(state: State) -> bool {
     }
     let mut journal = [170u8; 255];
     let done = list::run(state, &events[0..e], &mut journal[0..j]);
-    let mut text = [0u8; 6000];
-    let a = put_done(&mut text, b"list", done);
-    let end = line::put_journal(&mut text, a, &journal, j);
-    line::finish(&mut text, end)
+    let numbers = list_numbers(done, &journal);
+    let n = j + 2;
+    print(b"list", &numbers[0..n])
 }
 
 // The gate report.
 fn report_call(state: State) -> bool {
     let report = report::gate_report(state);
-    let mut text = [0u8; 6000];
-    let a = line::put_text(&mut text, 0, b"report");
-    let b = line::put_byte(&mut text, a, report.answer);
-    let c = line::put_byte(&mut text, b, report.free);
-    let end = line::put_byte(&mut text, c, report.queued);
-    line::finish(&mut text, end)
+    let numbers = [
+        input::number(report.answer),
+        input::number(report.free),
+        input::number(report.queued),
+    ];
+    print(b"report", &numbers)
 }
 
 // Reads a record, makes its call and prints its line. False where the input ends, within a record too, and where the number is

@@ -1,2 +1,3 @@
--- The form in which the test programs read a state, and show one.
+-- The forms in which the test programs read a state, and show one, and the lines that they print.
 pub mod Image
+pub mod Line

@@ -8,3 +8,10 @@ pub fn size(x: u8) -> usize
 {
     x as usize
 }
+
+// A byte as a number.
+pub fn number(x: u8) -> u64
+    ensures { λ r. ⌜ r ≡ x ⌝ }
+{
+    x as u64
+}

@@ -1,66 +1,74 @@
-// A line of output, gathered in a buffer and written at once. Each function that appends is given the next free place and
-// answers the one after it.
+// A line of output in a buffer. Each function that appends is given the next free place and answers the one after it; what the buffer
+// has no room for is dropped.
 ghost use mathlib.Core.Path.{_≡_};
-ghost use Prim.Native.Nat.{_+_, _<_, _≤_};
-ghost use lib.ListN.{length};
+ghost use Prim.Native.Nat.{_+_, _≤_, min};
+ghost use lib.ListN.{length, set};
+ghost use lib.Seq.{sets};
+ghost use Rattle.io.specs.Counts.{Counts};
+ghost use Rattle.cases.specs.Line.{figure, figures, lineOf, sizeIn, putIn};
+
+// Appends a byte.
+fn put_byte(line: &mut [u8], at: usize, x: u8) -> usize
+    requires { ⌜ at ≤ length (now line) ⌝ }
+    ensures { λ r. ⌜ (r ≡ min (at + 1) (length (now (line .entry)))) × (now (line .exit) ≡ set (now (line .entry)) at x) ⌝ }
+{
+    if at < line.len() {
+        line[at] = x;
+        return at + 1;
+    }
+    at
+}
 
 // Appends a text.
-pub fn put_text(line: &mut [u8; 6000], at: usize, text: &[u8]) -> usize
-    requires { ⌜ at + length (now text) ≤ 6000 ⌝ }
-    ensures { λ r. ⌜ r ≡ at + length (now (text .entry)) ⌝ }
-{
-    let mut i = 0;
-    while i < text.len() {
-        line[at + i] = text[i];
-        i += 1;
-    }
-    at + i
-}
-
-// Appends a space and n in decimal.
-pub fn put_figure(line: &mut [u8; 6000], at: usize, n: u64) -> usize
-    requires { ⌜ at + 21 ≤ 6000 ⌝ }
-    ensures { λ r. ⌜ r ≤ at + 21 ⌝ }
-{
-    let mut digits = [0u8; 20];
-    let k = io::decimal(n, &mut digits);
-    line[at] = b' ';
-    put_text(line, at + 1, &digits[..k])
-}
-
-// Appends a space and a byte in decimal.
-pub fn put_byte(line: &mut [u8; 6000], at: usize, x: u8) -> usize
-    requires { ⌜ at + 21 ≤ 6000 ⌝ }
-    ensures { λ r. ⌜ r ≤ at + 21 ⌝ }
-{
-    put_figure(line, at, x as u64)
-}
-
-// Appends the first n bytes of a journal as figures.
-pub fn put_journal(line: &mut [u8; 6000], at: usize, journal: &[u8; 255], n: usize) -> usize
-    requires { ⌜ (at ≤ 100) × (n ≤ 255) ⌝ }
-    ensures { λ r. ⌜ r ≤ 5455 ⌝ }
+fn put_text(line: &mut [u8], at: usize, text: &[u8]) -> usize
+    requires { ⌜ at ≤ length (now line) ⌝ }
+    ensures { λ r. ⌜ (r ≡ min (at + length (now (text .entry))) (length (now (line .entry))))
+        × (now (line .exit) ≡ sets (now (line .entry)) at (now (text .entry))) ⌝ }
 {
     let mut end = at;
     let mut i = 0;
-    while i < n {
-        end = put_byte(line, end, journal[i]);
+    while i < text.len() {
+        end = put_byte(line, end, text[i]);
         i += 1;
     }
     end
 }
 
-// Writes the bytes of a text before a place.
-fn write(text: &[u8], end: usize) -> bool
-    requires { ⌜ end ≤ length (now text) ⌝ }
+// Appends a space and n in decimal.
+fn put_figure(line: &mut [u8], at: usize, n: u64) -> usize
+    requires { ⌜ at ≤ length (now line) ⌝ }
+    ensures { λ r. ⌜ (r ≡ min (at + length (figure n)) (length (now (line .entry))))
+        × (now (line .exit) ≡ sets (now (line .entry)) at (figure n)) ⌝ }
 {
-    io::write_all(1, &text[0..end])
+    let mut digits = [0u8; 20];
+    let k = io::decimal(n, &mut digits);
+    let a = put_text(line, at, b" ");
+    put_text(line, a, &digits[..k])
 }
 
-// Ends the line and writes it; false where that fails.
-pub fn finish(line: &mut [u8; 6000], at: usize) -> bool
-    requires { ⌜ at < 6000 ⌝ }
+// Appends numbers, each behind a space.
+fn put_figures(line: &mut [u8], at: usize, numbers: &[u64]) -> usize
+    requires { ⌜ at ≤ length (now line) ⌝ }
+    ensures { λ r. ⌜ (r ≡ min (at + length (figures (now (numbers .entry)))) (length (now (line .entry))))
+        × (now (line .exit) ≡ sets (now (line .entry)) at (figures (now (numbers .entry)))) ⌝ }
 {
-    line[at] = b'\n';
-    write(line, at + 1)
+    let mut end = at;
+    let mut i = 0;
+    while i < numbers.len() {
+        end = put_figure(line, end, numbers[i]);
+        i += 1;
+    }
+    end
+}
+
+// Puts a word, numbers and a line feed at a buffer's start, and answers how many bytes they take there. The second clause follows from
+// the first, and is stated for whoever lends that many bytes on.
+pub fn put_line(line: &mut [u8], word: &[u8], numbers: &[u64]) -> usize
+    ensures { λ r. ⌜ (r ≡ sizeIn (now (line .entry)) (lineOf (now (word .entry)) (now (numbers .entry))))
+        × (now (line .exit) ≡ putIn (now (line .entry)) (lineOf (now (word .entry)) (now (numbers .entry)))) ⌝ }
+    ensures { λ r. ⌜ Counts r (now (line .exit)) ⌝ }
+{
+    let a = put_text(line, 0, word);
+    let b = put_figures(line, a, numbers);
+    put_text(line, b, b"\n")
 }

@@ -19,9 +19,9 @@ fn next_size() -> usize {
 
 fn print_number(n: u64) -> bool {
     let mut text = [0u8; 6000];
-    let a = line::put_text(&mut text, 0, b"case");
-    let end = line::put_figure(&mut text, a, n);
-    line::finish(&mut text, end)
+    let numbers = [n];
+    let size = line::put_line(&mut text, b"case", &numbers);
+    io::write_all(1, &text[..size])
 }
 
 // Reads a file, and prints its number and its text. False where the input ends, within a file too.

@@ -8,31 +8,25 @@ use machine::Done;
 use machine::State;
 use machine::Status;
 use renaming::list;
-ghost use Prim.Native.Nat.{_+_, _≤_};
+ghost use mathlib.Core.Path.{_≡_};
+ghost use Prim.Native.Nat.{_≤_};
+ghost use lib.ListN.{length};
 
-// Appends the three numbers of a record.
-fn put_status(text: &mut [u8; 6000], at: usize, record: Status) -> usize
-    requires { ⌜ at + 63 ≤ 6000 ⌝ }
-    ensures { λ r. ⌜ r ≤ at + 63 ⌝ }
+// The answer, and the three numbers of each record.
+fn list_numbers(filled: Filled) -> [u64; 241]
+    ensures { λ r. ⌜ 241 ≡ length r ⌝ }
 {
-    let a = line::put_byte(text, at, record.stage);
-    let b = line::put_byte(text, a, record.name);
-    line::put_byte(text, b, record.steps)
-}
-
-// Appends the records that were lent.
-fn put_list(text: &mut [u8; 6000], at: usize, filled: Filled, count: usize) -> usize
-    requires { ⌜ (at ≤ 100) × (count ≤ 80) ⌝ }
-    ensures { λ r. ⌜ r ≤ 5140 ⌝ }
-{
-    let mut end = at;
-    let mut i = 0;
-    while i < count {
-        let record = filled.records[i];
-        end = put_status(text, end, record);
-        i += 1;
+    let mut numbers = [0u64; 241];
+    numbers[0] = input::number(filled.answer);
+    let mut p = 0;
+    while p < 80 {
+        let record = filled.records[p];
+        numbers[3 * p + 1] = input::number(record.stage);
+        numbers[3 * p + 2] = input::number(record.name);
+        numbers[3 * p + 3] = input::number(record.steps);
+        p += 1;
     }
-    end
+    numbers
 }
 
 // Runs the list that follows in the input. An answer that no list has, where the input ends.
@@ -66,11 +60,11 @@ fn print_list(state: State, count: usize) -> bool
         steps: 170,
     }; 80];
     let filled = lend::fill_first(state, list, count);
+    let numbers = list_numbers(filled);
     let mut text = [0u8; 6000];
-    let a = line::put_text(&mut text, 0, b"roll");
-    let b = line::put_byte(&mut text, a, filled.answer);
-    let end = put_list(&mut text, b, filled, count);
-    line::finish(&mut text, end)
+    let n = 3 * count + 1;
+    let size = line::put_line(&mut text, b"roll", &numbers[0..n]);
+    io::write_all(1, &text[..size])
 }
 
 // Reads a record, runs its list, fills the status list and prints its line. False where the input ends, within a record too, and where

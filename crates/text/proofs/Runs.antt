@@ -1,25 +1,22 @@
--- Texts put into a buffer one after the other are one text put there: two runs of stores are one, by induction on the first.
+-- Texts put into a buffer one after the other are one text put there: two runs of stores in a row are one.
 --     put-more       two texts in a row
 --     first-room     room for both is room for the first
 --     put-room       and, the first put, for the second
 --     sets-start     what a text put at the start leaves
 -- Assumes nothing.
 use mathlib.Core.Path.{_≡_, _∙_, ap, subst}
-use mathlib.Core.List.{List, [], _∷_, _++_}
-use Prim.Native.Nat.{ℕ, suc, _+_, _≤_}
+use mathlib.Core.List.{List, _++_}
+use Prim.Native.Nat.{ℕ, _+_, _≤_}
 use native.Mathlib.Nat.{zero-add}
 use native.Mathlib.Omega.{arith}
-use lib.ListN.{length, drop, set, length-append}
+use lib.ListN.{length, drop, length-append}
 use lib.Seq.{sets, sets-eq, length-sets}
+use Rattle.machine.proofs.Facts.Lists.{sets-append}
 
 -- the buffer o becomes o′: the text stands at a place, and r is the place after it
 pub record Put (o o′ : List ℕ) (at r : ℕ) (text : List ℕ) : Type 0 where
   pub place : r ≡ at + length text
   pub stored : o′ ≡ sets o at text
-
-pub sets-append : (xs ys l : List ℕ) (i j : ℕ) → j ≡ i + length xs → sets (sets l i xs) j ys ≡ sets l i (xs ++ ys)
-sets-append [] ys l i j e = ap (λ (k : ℕ). sets l k ys) (omega (arith, e))
-sets-append (x ∷ xs) ys l i j e = sets-append xs ys (set l i x) (suc i) j (omega (arith, e))
 
 pub first-room : (o xs ys : List ℕ) (at : ℕ) → at + length (xs ++ ys) ≤ length o → at + length xs ≤ length o
 first-room o xs ys at k = omega (arith, k, length-append xs ys)

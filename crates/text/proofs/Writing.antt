@@ -6,9 +6,10 @@ use Prim.Native.Nat.{ℕ, _+_, _-_, _≤_, _<_}
 use native.Mathlib.Omega.{arith}
 use lib.ListN.{length, drop, length-append}
 use lib.Seq.{sets, length-sets}
+use Rattle.machine.proofs.Facts.Lists.{sets-append}
 use Rattle.text.specs.Lines.{lineAt, lines}
 use Rattle.text.proofs.Entries.{lines-step, lines-end}
-use Rattle.text.proofs.Runs.{Put, sets-append, first-room}
+use Rattle.text.proofs.Runs.{Put, first-room}
 
 -- the buffer was lent as o₀ and is o; the entries from byte i on will stand from a place on
 pub record Writing (j o₀ o : List ℕ) (i at : ℕ) : Type 0 where

@@ -1,12 +1,12 @@
 -- What stands at a place of a list after a store, and after every element moved up by one: by whether it is that place.
 -- Assumes nothing.
-use mathlib.Core.Path.{_≡_, refl, sym, _∙_}
+use mathlib.Core.Path.{_≡_, refl, sym, _∙_, ap}
 use mathlib.Core.List.{List, [], _∷_, _++_, map}
-use Prim.Native.Nat.{ℕ, zero, suc, _<_}
+use Prim.Native.Nat.{ℕ, zero, suc, _+_, _<_}
 use native.Mathlib.Decide.{ℕ-discrete, decLt}
 use native.Mathlib.Omega.{arith}
 use lib.ListN.{length, getD, set, drop, length-set, length-map}
-use lib.Seq.{getD-set-same, getD-set-other, set-out}
+use lib.Seq.{sets, getD-set-same, getD-set-other, set-out}
 use Rattle.machine.specs.Touches.{Agrees}
 
 -- what holds of the value stored, and of what stood there, holds of what stands there after the store
@@ -37,6 +37,11 @@ store-agrees {d = d} {used} {l} {l′} i a k =
     go j u (yes q) (yes e) = rw q (getD-set-same l′ i a d (omega (arith, k .size)) ∙ sym (getD-set-same l i a d e))
     go j u (yes q) (no e) = rw (set-out l i a (omega arith), set-out l′ i a (omega (arith, k .size))) (k .at j u)
     go j u (no q) e = getD-set-other l′ i j a d q ∙ k .at j u ∙ sym (getD-set-other l i j a d q)
+
+-- two runs of stores in a row are one
+pub sets-append : (xs ys l : List ℕ) (i j : ℕ) → j ≡ i + length xs → sets (sets l i xs) j ys ≡ sets l i (xs ++ ys)
+sets-append [] ys l i j e = ap (λ (k : ℕ). sets l k ys) (omega (arith, e))
+sets-append (x ∷ xs) ys l i j e = sets-append xs ys (set l i x) (suc i) j (omega (arith, e))
 
 -- the length of an array of records, as code knows it
 pub length-mapped : (X Y : Type 0) (f : X → Y) (l : List X) (n : ℕ) → length (map f l) ≡ n → length l ≡ n

@@ -62,17 +62,26 @@ part-journal-end c = search needs
 run-requires : tie.Need-run-requires
 run-requires c κs = search needs
 
-slice-aggregate-put-done : tie.Need-slice-aggregate-put-done
-slice-aggregate-put-done c = search needs
+list-numbers-requires : tie.Need-list-numbers-requires
+list-numbers-requires c κs = search needs
 
-put-done-requires : tie.Need-put-done-requires
-put-done-requires c κs = search needs
+add-n : tie.Need-add-n
+add-n c = search needs
 
-put-journal-requires : tie.Need-put-journal-requires
-put-journal-requires c κs = search needs
+slice-aggregate-print : tie.Need-slice-aggregate-print
+slice-aggregate-print c = search needs
 
-finish-requires : tie.Need-finish-requires
-finish-requires c κs = search needs
+sub-print : tie.Need-sub-print
+sub-print c = search needs
+
+part-print-start : tie.Need-part-print-start
+part-print-start c = search needs
+
+part-print-end : tie.Need-part-print-end
+part-print-end c = search needs
+
+print-requires : tie.Need-print-requires
+print-requires c κs = search needs
 
 returns-3 : tie.Need-returns-3
 returns-3 c = search needs
@@ -100,8 +109,11 @@ list-call-spec =
     part-journal-start
     part-journal-end
     run-requires
-    slice-aggregate-put-done
-    put-done-requires
-    put-journal-requires
-    finish-requires
+    list-numbers-requires
+    add-n
+    slice-aggregate-print
+    sub-print
+    part-print-start
+    part-print-end
+    print-requires
     returns-3)

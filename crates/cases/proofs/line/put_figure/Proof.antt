@@ -1,53 +1,61 @@
--- `put_figure` meets its contract: a number of 64 bits has at most 20 digits. Assumes nothing.
-use mathlib.Core.Path.{_≡_, refl}
-use mathlib.Core.Bool.{Bool, true, false}
-use Prim.Native.Nat.{ℕ, _-_, _≤_}
-use native.Mathlib.Nat.{pow-le-pow-right}
-use native.Mathlib.Omega.{arith}
-use lib.Dec.{ltb}
-use mir.Syntax.{w64}
-use mir.Val.{Fits}
-use borrow.Author.Tests.{ltb-true, ltb-false}
-use Rattle.io.specs.Digits.{Fewest}
+-- `put_figure` meets its contract: a space, and then the digits, which are the decimal. Assumes nothing.
+use mathlib.Core.Path.{_≡_, _∙_}
+use mathlib.Core.List.{[], _∷_}
+use lib.ListN.{take}
+use Rattle.cases.specs.Line.{decimalIn, figure}
+use Rattle.cases.proofs.Lines.{Put, as-put, put-more}
+use Rattle.cases.proofs.Decimals.{digits-decimal}
 use borrow.Author.Needs.{needs}
 use Rattle.cases.proofs.line.put_figure.Statement.{statement}
 use Rattle.cases.proofs.line.put_figure.Tie as tie
 
-few : (n k : ℕ) → Fits w64 n → Fewest 10 1 n k → k ≤ 20
-few n k f d = go (ltb 20 k) refl where
-  go : (t : Bool) → ltb 20 k ≡ t → k ≤ 20
-  go true e = omega (arith, pow-le-pow-right {n = 10} (omega arith) {i = 20} {j = k - 1} (omega (arith, ltb-true)), d .2 (omega (arith, ltb-true)), f .fits)
-  go false e = ltb-false 20 k e
-
 decimal-requires : tie.Need-decimal-requires
 decimal-requires c κs = search needs
-
-element-write-line : tie.Need-element-write-line
-element-write-line c = search needs
-
-add-put-text : tie.Need-add-put-text
-add-put-text c = search needs
-
-array-share-prefix-digits : tie.Need-array-share-prefix-digits
-array-share-prefix-digits c = search needs
 
 slice-aggregate-put-text : tie.Need-slice-aggregate-put-text
 slice-aggregate-put-text c = search needs
 
 put-text-requires : tie.Need-put-text-requires
-put-text-requires c κs = omega (arith, few (c .before .before .before .before .args .n) (c .before .before .decimal .result) (c .before .before .before .before .fits .n) (c .before .before .decimal .ensures .1 .0))
+put-text-requires c κs = search needs
+
+array-share-prefix-digits : tie.Need-array-share-prefix-digits
+array-share-prefix-digits c = search needs
+
+slice-aggregate-put-text-2 : tie.Need-slice-aggregate-put-text-2
+slice-aggregate-put-text-2 c = search needs
+
+put-text-requires-2 : tie.Need-put-text-requires-2
+put-text-requires-2 c κs = search needs
+
+same-length : tie.Need-same-length
+same-length c = search needs
 
 returns : tie.Need-returns
-returns c = omega (arith, few (c .before .before .before .before .before .args .n) (c .before .before .before .decimal .result) (c .before .before .before .before .before .fits .n) (c .before .before .before .decimal .ensures .1 .0))
+unfolding figure
+returns c =
+    let a = c .before .before .before .before .before .before .before .put-text in
+    let b = c .before .before .put-text2 in
+    let d = c .before .before .before .before .before .before .before .before .before .before .decimal in
+    let s = c .before .before .before .before .before .before .before .before .before .before .before .before .before in
+    let spelt : take (d .result) (d .last .1 .0) ≡ decimalIn 19 (s .args .n) =
+    d .ensures .1 .1 ∙ digits-decimal (s .args .n) (d .result) (s .fits .n) (d .ensures .1 .0)
+    in
+    let space : Put (s .args .line .now) (a .last .0) (s .args .at) (a .result) (32 ∷ []) = as-put (a .ensures) in
+    let number : Put (a .last .0) (b .last .0) (a .result) (b .result) (decimalIn 19 (s .args .n)) =
+    rw (← spelt) (as-put (b .ensures))
+    in
+    let both = put-more space number in
+    (both .place, both .stored)
 
 pub put-figure-spec : {M : Type 1} → statement M
 put-figure-spec =
     tie.close
     (tie.spec
     decimal-requires
-    element-write-line
-    add-put-text
-    array-share-prefix-digits
     slice-aggregate-put-text
     put-text-requires
+    array-share-prefix-digits
+    slice-aggregate-put-text-2
+    put-text-requires-2
+    same-length
     returns)

@@ -1,27 +1,29 @@
--- `put_text` meets its contract: the bytes passed are at most the text's, and at the end all of them. Assumes nothing.
-use Prim.Native.Nat.{_≤_, _-_}
-use lib.ListN.{length}
+-- `put_text` meets its contract: the bytes passed stand in the line, and one byte more is one text more. Assumes nothing.
+use mathlib.Core.List.{[], _∷_}
+use Prim.Native.Nat.{_-_, _≤_}
+use native.Mathlib.Numerals.{add-one}
+use native.Mathlib.Omega.{arith}
+use lib.ListN.{length, take, getD}
+use lib.Seq.{take-suc, take-all}
+use Rattle.cases.proofs.Lines.{Put, as-put, put-none, same-room, put-within, put-more}
 use borrow.Author.Needs.{needs}
 use Rattle.cases.proofs.line.put_text.Statement.{statement}
 use Rattle.cases.proofs.line.put_text.Tie as tie
 
 abbrev Inv-loop : tie.InvT-loop
-Inv-loop line₀ at text i₀ line i = i ≤ length text
+Inv-loop line₀ at text end₀ i₀ line end i = (i ≤ length text) × Put line₀ line at end (take i text)
 
 abbrev μ-loop : tie.MeasureT-loop
-μ-loop line₀ at text i₀ line i = length text - i
+μ-loop line₀ at text end₀ i₀ line end i = length text - i
 
 loop-holds : tie.Need-loop-holds Inv-loop μ-loop
-loop-holds c = search needs
+loop-holds c = let s = c .before .before in (omega arith, put-none (s .args .line .now) (s .args .at) (s .pre))
 
-shared-slice-read-line : tie.Need-shared-slice-read-line Inv-loop μ-loop
-shared-slice-read-line c = search needs
+shared-slice-read-put-byte : tie.Need-shared-slice-read-put-byte Inv-loop μ-loop
+shared-slice-read-put-byte c = search needs
 
-add-line : tie.Need-add-line Inv-loop μ-loop
-add-line c = search needs
-
-element-write-line : tie.Need-element-write-line Inv-loop μ-loop
-element-write-line c = search needs
+put-byte-requires : tie.Need-put-byte-requires Inv-loop μ-loop
+put-byte-requires c κs = put-within (c .before .before .before .loop .inv .1)
 
 add-i : tie.Need-add-i Inv-loop μ-loop
 add-i c = search needs
@@ -30,13 +32,22 @@ loop-less : tie.Need-loop-less Inv-loop μ-loop
 loop-less c = search needs
 
 loop-again : tie.Need-loop-again Inv-loop μ-loop
-loop-again c = search needs
+loop-again c =
+    let l = c .before .before .before .before .before .before .loop in
+    let b = c .before .before .put-byte in
+    let text = c .before .before .before .before .before .before .before .before .before .args .text .now in
+    let one : Put (l .line) (b .last .0) (l .end) (b .result) (getD text (l .i) 0 ∷ []) = as-put (b .ensures) in
+    (omega arith, rw (add-one (l .i), take-suc text (l .i) 0 (omega arith)) (put-more (l .inv .1) one))
 
-add-result : tie.Need-add-result Inv-loop μ-loop
-add-result c = search needs
+same-length : tie.Need-same-length Inv-loop μ-loop
+same-length c = same-room (c .before .loop .inv .1)
 
 returns : tie.Need-returns Inv-loop μ-loop
-returns c = search needs
+returns c =
+    let l = c .before .loop in
+    let text = c .before .before .before .before .args .text .now in
+    let all = rw (take-all (l .i) text (c .loop-test .left)) at (l .inv .1) in
+    (all .place, all .stored)
 
 pub put-text-spec : {M : Type 1} → statement M
 put-text-spec =
@@ -45,11 +56,10 @@ put-text-spec =
     Inv-loop
     μ-loop
     loop-holds
-    shared-slice-read-line
-    add-line
-    element-write-line
+    shared-slice-read-put-byte
+    put-byte-requires
     add-i
     loop-less
     loop-again
-    add-result
+    same-length
     returns)

@@ -1,0 +1,46 @@
+-- `put_line` meets its contract: the word, the figures and the line feed, put one after the other, are the line. Assumes nothing.
+use mathlib.Core.List.{[], _∷_}
+use Rattle.cases.specs.Line.{figures, lineOf}
+use Rattle.cases.proofs.Lines.{Put, as-put, put-more, put-first, put-counts}
+use borrow.Author.Needs.{needs}
+use Rattle.cases.proofs.line.put_line.Statement.{statement}
+use Rattle.cases.proofs.line.put_line.Tie as tie
+
+put-text-requires : tie.Need-put-text-requires
+put-text-requires c κs = search needs
+
+put-figures-requires : tie.Need-put-figures-requires
+put-figures-requires c κs = search needs
+
+slice-aggregate-put-text : tie.Need-slice-aggregate-put-text
+slice-aggregate-put-text c = search needs
+
+put-text-requires-2 : tie.Need-put-text-requires-2
+put-text-requires-2 c κs = search needs
+
+same-length : tie.Need-same-length
+same-length c = search needs
+
+returns : tie.Need-returns
+unfolding lineOf
+returns c =
+    let a = c .before .before .before .before .before .before .before .before .before .before .before .put-text in
+    let b = c .before .before .before .before .before .before .before .put-figures in
+    let e = c .before .before .put-text2 in
+    let s = c .before .before .before .before .before .before .before .before .before .before .before .before .before .before .before .before in
+    let word : Put (s .args .line .now) (a .last .0) 0 (a .result) (s .args .word .now) = as-put (a .ensures) in
+    let numbers : Put (a .last .0) (b .last .0) (a .result) (b .result) (figures (s .args .numbers .now)) = as-put (b .ensures) in
+    let end : Put (b .last .0) (e .last .0) (b .result) (e .result) (10 ∷ []) = as-put (e .ensures) in
+    let whole = put-more word (put-more numbers end) in
+    (put-first whole, put-counts whole)
+
+pub put-line-spec : {M : Type 1} → statement M
+put-line-spec =
+    tie.close
+    (tie.spec
+    put-text-requires
+    put-figures-requires
+    slice-aggregate-put-text
+    put-text-requires-2
+    same-length
+    returns)
