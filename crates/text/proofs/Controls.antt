@@ -1,39 +1,10 @@
--- What the program prints for P11's file, byte for byte as document 01 shows it, and for refused files: each is computed. Assumes nothing.
-use mathlib.Core.Path.{_≡_, refl}
-use mathlib.Core.List.{List, [], _∷_, _++_}
-use Prim.Native.Nat.{ℕ}
+-- What the program prints is what the table says: each is computed. Assumes nothing.
+use mathlib.Core.Path.{refl}
 use Rattle.machine.proofs.Runs.{machine}
 use Rattle.trace.specs.Layout.{isMarked, word, isEntry, fileAnswer, readSetup, readEvents}
-use Rattle.trace.proofs.Controls.{p11-file}
-use Rattle.text.specs.Lines.{space, newline, decimal, figure, line, lines, refused}
+use Rattle.text.specs.Controls.{Printed}
+use Rattle.text.specs.Lines.{decimal, figure, line, lines, refused}
 use Rattle.text.specs.File.{fileText}
-
--- four characters, as ASCII bytes, parted by spaces
-abbrev row : ℕ → ℕ → ℕ → ℕ → List ℕ
-row a b c d = a ∷ space ∷ b ∷ space ∷ c ∷ space ∷ d ∷ newline ∷ []
-
-abbrev dash : ℕ
-dash = 45
-
-pub record Printed : Type 0 where
-  -- 0 1 - 0, 0 3 - 0, 0 4 0 1, 0 1 - 0, 0 2 - 0, 0 2 - 0, 0 5 0 1, 0 5 - 1, 0 0 - 1, 0 3 - 0, 0 4 0 1
-  pub p11 :
-      fileText p11-file
-      ≡ row 48 49 dash 48
-      ++ row 48 51 dash 48
-      ++ row 48 52 48 49
-      ++ row 48 49 dash 48
-      ++ row 48 50 dash 48
-      ++ row 48 50 dash 48
-      ++ row 48 53 48 49
-      ++ row 48 53 dash 49
-      ++ row 48 48 dash 49
-      ++ row 48 51 dash 48
-      ++ row 48 52 48 49
-  -- refused 10
-  pub none : fileText [] ≡ 114 ∷ 101 ∷ 102 ∷ 117 ∷ 115 ∷ 101 ∷ 100 ∷ space ∷ 49 ∷ 48 ∷ newline ∷ []
-  -- 15 - - - is what a broken state's event shows; 254 is the highest figure
-  pub figures : (lines (15 ∷ 255 ∷ 255 ∷ 255 ∷ []) ≡ 49 ∷ row 53 dash dash dash) × (decimal 254 ≡ 50 ∷ 53 ∷ 52 ∷ [])
 
 pub printed : Printed
 unfolding machine isMarked word isEntry fileAnswer readSetup readEvents decimal figure line lines refused fileText

@@ -1,2 +1,3 @@
--- What a trace file is, and what its reader gives.
+-- What a trace file is, and what its reader gives; Controls has files written out.
 pub mod Layout
+pub mod Controls

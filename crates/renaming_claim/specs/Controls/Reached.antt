@@ -1,0 +1,71 @@
+-- Runs that reach what the claim allows: a queue that is served, a name one below the admitted, and a claim of h + g steps. So no field
+-- of the claim holds for want of a case. `reached` in proofs/Controls/Reached.antt computes each.
+use mathlib.Core.Path.{_≡_}
+use mathlib.Core.List.{List, [], _∷_, _++_, map}
+use Prim.Native.Nat.{_+_}
+use lib.IntN.{negsuc}
+use lib.ListN.{take}
+use Rattle.machine.specs.Admitted.{admitted}
+use Rattle.machine.specs.Lists.{Event, eventsOf, journal}
+use Rattle.machine.specs.Reports.{statusOf}
+use Rattle.machine.specs.Runs.{ask, turn, finish, line}
+use Rattle.machine.specs.Setup.{height}
+use Rattle.machine.specs.Stage.{remainder, entry, waiting, getname, working, putname}
+use Rattle.machine.specs.State.{none, processAt, counterAt, wordAt, fresh}
+use Rattle.renaming_claim.specs.Claim.{afterList}
+
+-- one name for two processes: 0 wins it, 1 queues, 0 returns it, 1 goes on and wins it
+abbrev pub served : List Event
+served = eventsOf (ask 0 ++ turn 0 ++ turn 0 ++ ask 1 ++ turn 1 ++ finish 0 ++ turn 0 ++ turn 0 ++ turn 1 ++ turn 1)
+
+-- two leaves of two segments of one bit: 0 and 1 both go left, and 1 finds the first segment full
+abbrev pub costly : List Event
+costly = eventsOf (ask 0 ++ turn 0 ++ turn 0 ++ turn 0 ++ ask 1 ++ turn 1 ++ turn 1 ++ turn 1 ++ turn 1)
+
+-- the state drawn in docs/PROOF.md: five processes, two leaves of two segments of one bit
+abbrev pub drawn : List Event
+drawn =
+    eventsOf
+    (ask 0 ++ turn 0 ++ turn 0 ++ turn 0
+    ++ ask 1 ++ turn 1 ++ turn 1 ++ turn 1
+    ++ ask 2 ++ turn 2 ++ turn 2
+    ++ ask 3 ++ turn 3
+    ++ ask 4 ++ turn 4)
+
+pub record Reached : Type 0 where
+  -- 1 waits in the queue while 0 holds the only name; when 0 is back in its remainder section, 1 goes on and takes the name over
+  pub taken-over : journal (fresh 2 1 1 1) served
+      ≡ line 0 entry none 0
+      ++ line 0 getname none 0
+      ++ line 0 working 0 1
+      ++ line 0 entry none 0
+      ++ line 0 waiting none 0
+      ++ line 0 putname 0 1
+      ++ line 0 putname none 1
+      ++ line 0 remainder none 1
+      ++ line 0 getname none 0
+      ++ line 0 working 0 1
+  pub one-admitted : admitted (afterList 2 1 1 1 (take 5 served)) ≡ 1
+  -- two are admitted, the names are 0 and 1; the cheapest claim takes h + 1 steps, the dearest h + g
+  pub dearest : journal (fresh 2 2 2 1) costly
+      ≡ line 0 entry none 0
+      ++ line 0 getname none 0
+      ++ line 0 getname none 1
+      ++ line 0 working 0 2
+      ++ line 0 entry none 0
+      ++ line 0 getname none 0
+      ++ line 0 getname none 1
+      ++ line 0 getname none 2
+      ++ line 0 working 1 3
+  pub dearest-steps : (height 2 + 1 ≡ 2) × (height 2 + 2 ≡ 3)
+  pub two-admitted : admitted (afterList 2 2 2 1 costly) ≡ 2
+  -- the drawing: 0 holds name 0; 1 and 2 are in getname, at segment 1 of the left leaf and at the right leaf; 3 has just come in; 4 waits
+  pub drawn-journal : map (λ p. statusOf (processAt (afterList 5 2 2 1 drawn) p)) (0 ∷ 1 ∷ 2 ∷ 3 ∷ 4 ∷ [])
+      ≡ record { stage = working; name = 0; steps = 2 }
+      ∷ record { stage = getname; name = none; steps = 2 }
+      ∷ record { stage = getname; name = none; steps = 1 }
+      ∷ record { stage = getname; name = none; steps = 0 }
+      ∷ record { stage = waiting; name = none; steps = 0 }
+      ∷ []
+  pub drawn-gate : (afterList 5 2 2 1 drawn .gate ≡ negsuc 0) × (admitted (afterList 5 2 2 1 drawn) ≡ 4)
+  pub drawn-places : (counterAt (afterList 5 2 2 1 drawn) 1 ≡ 0) × (wordAt (afterList 5 2 2 1 drawn) 0 ≡ 1)
