@@ -19,7 +19,7 @@ use Rattle.whole_list.specs.Calls.{SetUp, ListCall, listed, resultsOf, C
 use Rattle.whole_list.specs.Whole.{Whole, Listed, ownState}
 use Rattle.whole_list.proofs.Accepted.{passed, is-fresh, run-written, run-untouched}
 use Rattle.whole_list.proofs.Agrees.{agrees}
-use Rattle.whole_list.proofs.Chain.{results-are, end-is, list-state, list-kept}
+use Rattle.whole_list.proofs.Chain.{results-are, end-is, join, list-state, list-kept}
 use Rattle.whole_list.proofs.Results.{results-answers, results-states, results-entries, results-own}
 
 -- a chain gives after each prefix of its events the machine's state
@@ -54,6 +54,7 @@ module _ (n l g b : ℕ) (d₀ : Done) (set : SetUp n l g b d₀) (accepted : d�
             ∙ ap (λ (x : State). after x (take i es)) start;
         last = ended;
         claims = λ i. owned i (λ j. ap (λ (x : State). after x (take j (take i es))) (sym start) ∙ sym (own-is calls i j));
+        joins = λ fs gs u more. join calls more;
         wins = λ p k st fs gs u more given.
             held-own more
             (subst (λ (x : State). HoldsWithin (height l + g) (after x) p fs) (sym ended)

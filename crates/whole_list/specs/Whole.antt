@@ -27,6 +27,8 @@ pub record Whole (n l g b : ℕ) (s : State) (es : List Event) (ds : List Done) 
   pub last : t ≡ afterList n l g b es
   -- The claim holds of the calls' own states, after every event.
   pub claims : (i : ℕ) → Claim n l g b (ownState s ds) (take i es)
+  -- Calls that follow make one chain with these.
+  pub joins : (fs : List Event) (gs : List Done) (u : State) → Calls t fs gs u → Calls s (es ++ fs) (ds ++ gs) u
   -- Whatever calls follow, once a process that is in getname in the state t has been given h + g more steps, it held a name directly
   -- after one of them, in the state that the calls gave there.
   pub wins : (p : ℕ) → p < n → processAt t p .stage ≡ getname → (fs : List Event) (gs : List Done) (u : State) → Calls t fs gs u
