@@ -2,7 +2,8 @@
  * state that it saved. Standard input stands for the radio: a line is a frame, `kind handset`. The reply is the line that pads prints
  * for the event: answer, stage, pad, spent.
  *
- * The state is saved before the reply goes out, so that no handset has heard of a pad that the box can forget. */
+ * The state is saved before the reply goes out, so that no handset has heard of a pad that the box can forget. A saved state that cannot
+ * be trusted stops the box: a fresh one would hand out pads that handsets still hold. */
 #define _POSIX_C_SOURCE 200809L
 #include <errno.h>
 #include <fcntl.h>
@@ -55,11 +56,13 @@ static int save(const char *path, const zevgorim_state *state) {
     return fclose(out) == 0 && written && rename(aside, path) == 0 && sync_folder(path);
 }
 
-/* NULL where the saved state is restored, otherwise what is wrong with it. */
+static const char none_saved[] = "no saved state";
+
+/* NULL where the saved state is restored, otherwise why it is not. */
 static const char *restore(const char *path, const zevgorim_state *fresh, zevgorim_state *state) {
     uint8_t stored[STORED_SIZE + 1], right[STORED_SIZE];
     FILE *in = fopen(path, "rb");
-    if (in == NULL) return errno == ENOENT ? "no saved state" : "saved state cannot be read";
+    if (in == NULL) return errno == ENOENT ? none_saved : "saved state cannot be read";
     size_t size = fread(stored, 1, sizeof stored, in);
     fclose(in);
     if (size != STORED_SIZE) return "saved state damaged";
@@ -135,7 +138,12 @@ int main(int argc, char **argv) {
         return 1;
     }
     zevgorim_state state = fresh.state;
-    const char *wrong = restore(argv[1], &fresh.state, &state);
-    if (wrong != NULL) fprintf(stderr, "live: %s: fresh setup, every pad is open\n", wrong);
+    const char *why = restore(argv[1], &fresh.state, &state);
+    if (why == none_saved) {
+        fprintf(stderr, "live: no saved state: fresh setup, every pad is open\n");
+    } else if (why != NULL) {
+        fprintf(stderr, "live: %s: remove %s once every pad is back\n", why, argv[1]);
+        return 1;
+    }
     return serve(argv[1], state);
 }
