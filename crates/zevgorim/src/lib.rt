@@ -1,4 +1,4 @@
-// The calls for C: each is the call of the same name, behind a prefix. A slice is a pointer and its length.
+// The calls for C, behind a prefix. A slice is a pointer and its length.
 pub mod files;
 mod narrow;
 pub mod roll;
