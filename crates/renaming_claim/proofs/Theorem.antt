@@ -13,7 +13,7 @@ use Rattle.machine.specs.State.{processAt, namesOf, setupOf, fresh}
 use Rattle.machine.specs.declared.Process.{Process}
 use Rattle.machine.specs.declared.State.{State}
 use Rattle.machine.proofs.Laws.Fresh.{process-fresh}
-use Rattle.renaming_claim.specs.Claim.{Claim, afterList}
+use Rattle.renaming_claim.specs.Claim.{Claim, afterList, EveryList}
 use Rattle.renaming_claim.specs.History.{claimSteps}
 use Rattle.renaming_claim.proofs.Along.{list-steps, list-wins}
 use Rattle.renaming_claim.proofs.Implies.Names.{admitted-few, not-exhausted, name-below, name-low, names-unlike}
@@ -66,8 +66,8 @@ module _ (n l g b : ℕ) (accepted : setupAnswer n l g b ≡ 0) where
     counted p k =
         list-steps s start-sound p k es ∙ ap (claimSteps p s es) (ap (λ (x : Process). x .steps) (process-fresh n l g b accepted p k))
 
-  pub theorem : (es : List Event) → Claim n l g b (afterList n l g b) es
-  theorem es =
+  holds : (es : List Event) → Claim n l g b (afterList n l g b) es
+  holds es =
       record {
         admitted-k = omega (arith, admitted-few (sound es .reach) (sound es .inv), names-are es);
         held-below = λ p k e. omega (arith, name-below (sound es .reach) (sound es .inv) p (known es p k) e, names-are es);
@@ -79,3 +79,6 @@ module _ (n l g b : ℕ) (accepted : setupAnswer n l g b ≡ 0) where
         steps-most = λ p k e. omega (arith, most-steps (mover (sound es) (known es p k)), bound-is es);
         wins = λ p k e fs given. list-wins (height l + g) (t es) (sound es) p (known es p k) e fs (omega (arith, bound-is es)) (omega (arith, given));
       }
+
+pub theorem : EveryList
+theorem = holds

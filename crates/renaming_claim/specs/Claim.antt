@@ -9,7 +9,7 @@ use Prim.Native.Nat.{ℕ, _+_, _≤_, _<_}
 use lib.ListN.{length, take}
 use Rattle.machine.specs.Admitted.{admitted}
 use Rattle.machine.specs.Lists.{Event, after}
-use Rattle.machine.specs.Setup.{names, height}
+use Rattle.machine.specs.Setup.{setupAnswer, names, height}
 use Rattle.machine.specs.Stage.{getname, working, exhausted}
 use Rattle.machine.specs.State.{processAt, fresh}
 use Rattle.machine.specs.declared.Process.{Process}
@@ -47,3 +47,7 @@ module _ (n l g b : ℕ) (stateAfter : List Event → State) where
     -- directly after one of them.
     pub wins : (p : ℕ) → p < n → processAfter es p .stage ≡ getname → (fs : List Event) → height l + g ≤ stepsGiven p fs
         → HoldsWithin (height l + g) (after (stateAfter es)) p fs
+
+-- Demand 3 of the machine: the claim holds after every list, from every accepted setup.
+abbrev pub EveryList : Type 0
+EveryList = (n l g b : ℕ) → setupAnswer n l g b ≡ 0 → (es : List Event) → Claim n l g b (afterList n l g b) es

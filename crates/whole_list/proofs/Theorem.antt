@@ -16,7 +16,7 @@ use Rattle.renaming_claim.specs.Claim.{Claim, afterList}
 use Rattle.renaming_claim.specs.History.{HoldsWithin}
 use Rattle.renaming_claim.proofs.Theorem as claim
 use Rattle.whole_list.specs.Calls.{SetUp, ListCall, listed, resultsOf, Calls, none, list, stateAt, entriesOf}
-use Rattle.whole_list.specs.Whole.{Whole, Listed, ownState}
+use Rattle.whole_list.specs.Whole.{Whole, ownState, EveryChain, EveryListCall}
 use Rattle.whole_list.proofs.Accepted.{passed, is-fresh, run-written, run-untouched}
 use Rattle.whole_list.proofs.Agrees.{agrees}
 use Rattle.whole_list.proofs.Chain.{results-are, end-is, join, list-state, list-kept}
@@ -43,54 +43,53 @@ held-own {p = p} {s = s} {es = es} {ds = ds} calls w =
           (w .holds);
     }
 
-module _ (n l g b : ℕ) (d₀ : Done) (set : SetUp n l g b d₀) (accepted : d₀ .answer ≡ 0) where
-  pub whole-list : (es : List Event) (ds : List Done) (t : State) → Calls (d₀ .state) es ds t → Whole n l g b (d₀ .state) es ds t
-  whole-list es ds t calls =
-      record {
-        answered = ap (map (λ (d : Done). d .answer)) (results-are calls) ∙ results-answers s es ∙ ap (λ (x : State). answers x es) start;
-        states = λ i.
-            ap (λ (rs : List Done). stateAt s rs i) (results-are calls)
-            ∙ results-states s es i
-            ∙ ap (λ (x : State). after x (take i es)) start;
-        last = ended;
-        claims = λ i. owned i (λ j. ap (λ (x : State). after x (take j (take i es))) (sym start) ∙ sym (own-is calls i j));
-        joins = λ fs gs u more. join calls more;
-        wins = λ p k st fs gs u more given.
-            held-own more
-            (subst (λ (x : State). HoldsWithin (height l + g) (after x) p fs) (sym ended)
-            (claimed es .wins p k (subst (λ (x : State). processAt x p .stage ≡ getname) ended st) fs given));
-      }
-    where
-      s : State
-      s = d₀ .state
+pub whole-list : EveryChain
+whole-list n l g b d₀ set accepted es ds t calls =
+    record {
+      answered = ap (map (λ (d : Done). d .answer)) (results-are calls) ∙ results-answers s es ∙ ap (λ (x : State). answers x es) start;
+      states = λ i.
+          ap (λ (rs : List Done). stateAt s rs i) (results-are calls)
+          ∙ results-states s es i
+          ∙ ap (λ (x : State). after x (take i es)) start;
+      last = ended;
+      claims = λ i. owned i (λ j. ap (λ (x : State). after x (take j (take i es))) (sym start) ∙ sym (own-is calls i j));
+      joins = λ fs gs u more. join calls more;
+      wins = λ p k st fs gs u more given.
+          held-own more
+          (subst (λ (x : State). HoldsWithin (height l + g) (after x) p fs) (sym ended)
+          (claimed es .wins p k (subst (λ (x : State). processAt x p .stage ≡ getname) ended st) fs given));
+    }
+  where
+    s : State
+    s = d₀ .state
 
-      start : s ≡ fresh n l g b
-      start = is-fresh n l g b d₀ set accepted
+    start : s ≡ fresh n l g b
+    start = is-fresh n l g b d₀ set accepted
 
-      ended : t ≡ afterList n l g b es
-      ended = end-is calls ∙ ap (λ (x : State). after x es) start
+    ended : t ≡ afterList n l g b es
+    ended = end-is calls ∙ ap (λ (x : State). after x es) start
 
-      claimed : (fs : List Event) → Claim n l g b (afterList n l g b) fs
-      claimed = claim.theorem n l g b (passed n l g b d₀ set accepted)
+    claimed : (fs : List Event) → Claim n l g b (afterList n l g b) fs
+    claimed = claim.theorem n l g b (passed n l g b d₀ set accepted)
 
-      owned : (i : ℕ) → ((j : ℕ) → afterList n l g b (take j (take i es)) ≡ ownState s ds (take j (take i es)))
-          → Claim n l g b (ownState s ds) (take i es)
-      owned i same =
-          agrees n l g b (afterList n l g b) (ownState s ds) (take i es)
-          (subst (λ (fs : List Event). afterList n l g b fs ≡ ownState s ds fs) (take-length (take i es)) (same (length (take i es))))
-          same
-          (claimed (take i es))
+    owned : (i : ℕ) → ((j : ℕ) → afterList n l g b (take j (take i es)) ≡ ownState s ds (take j (take i es)))
+        → Claim n l g b (ownState s ds) (take i es)
+    owned i same =
+        agrees n l g b (afterList n l g b) (ownState s ds) (take i es)
+        (subst (λ (fs : List Event). afterList n l g b fs ≡ ownState s ds fs) (take-length (take i es)) (same (length (take i es))))
+        same
+        (claimed (take i es))
 
-  -- one list call on the setup's own state, as a chain
-  pub one-list : (d : Done) (c : ListCall (d₀ .state) d) → d .answer ≡ 0
-      → Whole n l g b (d₀ .state) (listed c) (resultsOf (d₀ .state) (listed c)) (d .state)
-  one-list d c ran =
-      whole-list (listed c) (resultsOf (d₀ .state) (listed c)) (d .state)
-      (subst (λ (es : List Event). Calls (d₀ .state) es (resultsOf (d₀ .state) (listed c)) (d .state)) (append-nil (listed c))
-      (subst (λ (ds : List Done). Calls (d₀ .state) (listed c ++ []) ds (d .state)) (append-nil (resultsOf (d₀ .state) (listed c)))
-      (list (d₀ .state) (d .state) d [] [] c ran (none (d .state)))))
+-- one list call on the setup's own state, as a chain
+pub one-list : (n l g b : ℕ) (d₀ : Done) → SetUp n l g b d₀ → d₀ .answer ≡ 0 → (d : Done) (c : ListCall (d₀ .state) d) → d .answer ≡ 0
+    → Whole n l g b (d₀ .state) (listed c) (resultsOf (d₀ .state) (listed c)) (d .state)
+one-list n l g b d₀ set accepted d c ran =
+    whole-list n l g b d₀ set accepted (listed c) (resultsOf (d₀ .state) (listed c)) (d .state)
+    (subst (λ (es : List Event). Calls (d₀ .state) es (resultsOf (d₀ .state) (listed c)) (d .state)) (append-nil (listed c))
+    (subst (λ (ds : List Done). Calls (d₀ .state) (listed c ++ []) ds (d .state)) (append-nil (resultsOf (d₀ .state) (listed c)))
+    (list (d₀ .state) (d .state) d [] [] c ran (none (d .state)))))
 
-pub list-call : (s : State) (d : Done) (c : ListCall s d) → Listed s d c
+pub list-call : EveryListCall
 list-call s d c =
     record {
       state = λ accepted ds t calls. list-state c accepted ∙ sym (end-is calls);

@@ -1,5 +1,6 @@
 -- Chains of calls. A call is known by what its own contract lets a caller learn (the generated Reads), and by nothing else; each
--- call of a chain is lent the state that the call before it gave, refused or not.
+-- call of a chain is lent the state that the call before it gave, refused or not. Only the states between the events of a list, which
+-- no call gives, are named by the machine's events.
 use mathlib.Core.Path.{_≡_}
 use mathlib.Core.Logic.{_≢_}
 use mathlib.Core.List.{List, [], _∷_, _++_}

@@ -13,9 +13,9 @@ use Rattle.machine.specs.declared.Done.{Done}
 use Rattle.machine.specs.declared.State.{State}
 use Rattle.renaming_claim.specs.Claim.{Claim, afterList}
 use Rattle.renaming_claim.specs.History.{stepsGiven, HoldsWithin}
-use Rattle.whole_list.specs.Calls.{ListCall, listed, Calls, stateAt, entriesOf}
+use Rattle.whole_list.specs.Calls.{SetUp, ListCall, listed, Calls, stateAt, entriesOf}
 
--- the state that the calls gave after a prefix of their events
+-- the chain's state after a prefix of its events: what a call gave there or, inside a list, what the list's events give
 abbrev pub ownState : State → List Done → List Event → State
 ownState s ds es = stateAt s ds (length es)
 
@@ -25,12 +25,12 @@ pub record Whole (n l g b : ℕ) (s : State) (es : List Event) (ds : List Done) 
   pub answered : map (λ (d : Done). d .answer) ds ≡ answers (fresh n l g b) es
   pub states : (i : ℕ) → stateAt s ds i ≡ afterList n l g b (take i es)
   pub last : t ≡ afterList n l g b es
-  -- The claim holds of the calls' own states, after every event.
+  -- The claim holds of the chain's own states, after every event.
   pub claims : (i : ℕ) → Claim n l g b (ownState s ds) (take i es)
   -- Calls that follow make one chain with these.
   pub joins : (fs : List Event) (gs : List Done) (u : State) → Calls t fs gs u → Calls s (es ++ fs) (ds ++ gs) u
   -- Whatever calls follow, once a process that is in getname in the state t has been given h + g more steps, it held a name directly
-  -- after one of them, in the state that the calls gave there.
+  -- after one of them, in the state of their chain there.
   pub wins : (p : ℕ) → p < n → processAt t p .stage ≡ getname → (fs : List Event) (gs : List Done) (u : State) → Calls t fs gs u
       → height l + g ≤ stepsGiven p fs → HoldsWithin (height l + g) (ownState t gs) p fs
 
@@ -43,3 +43,13 @@ pub record Listed (s : State) (d : Done) (c : ListCall s d) : Type 0 where
   -- A list that is refused gives the state that it was lent, and writes nothing.
   pub kept : d .answer ≢ 0 → d .state ≡ s
   pub untouched : d .answer ≢ 0 → now (c .journal′) ≡ now (c .journal)
+
+-- Demand 3 of the calls: every chain of calls from the state that an accepted setup gave is whole.
+abbrev pub EveryChain : Type 0
+EveryChain =
+    (n l g b : ℕ) (d₀ : Done) → SetUp n l g b d₀ → d₀ .answer ≡ 0
+    → (es : List Event) (ds : List Done) (t : State) → Calls (d₀ .state) es ds t → Whole n l g b (d₀ .state) es ds t
+
+-- and every call of a list does what the calls of its events do.
+abbrev pub EveryListCall : Type 0
+EveryListCall = (s : State) (d : Done) (c : ListCall s d) → Listed s d c
