@@ -1,5 +1,5 @@
--- Runs beyond the table that pin what it leaves open: the order of the refusals, each range by itself, the queue's order, and a
--- full round on either side of a node. `controls` in proofs/Controls.antt computes each.
+-- Runs beyond the table that pin what it leaves open: the order of the refusals, each range, the queue's order, and a full round on
+-- either side of a node. `controls` in proofs/Controls.antt computes each.
 use mathlib.Core.Path.{_≡_}
 use mathlib.Core.Bool.{true, false}
 use mathlib.Core.List.{List, [], _∷_, _++_, map}
@@ -15,6 +15,7 @@ use Rattle.machine.specs.Range.{inRange}
 use Rattle.machine.specs.Reports.{gateReport, statusAnswer, statusList}
 use Rattle.machine.specs.Runs.{ask, turn, finish, line}
 use Rattle.machine.specs.State.{done, none, freshProcess, withStage, withNode, withSegment, withName, withSteps, processAt, counterAt, withGate, withQueue, withCounter, withWord, withProcess, update, fresh, blank, setup}
+use Rattle.machine.specs.declared.Process.{Process}
 use Rattle.machine.specs.declared.State.{State}
 
 -- two processes, two leaves of one segment of one bit; and one name for three
@@ -43,7 +44,7 @@ queueing =
 abbrev pub full : State
 full = withWord 0 1 (withWord 1 1 (update 0 (λ h. withStage 3 (withSegment 1 h)) (fresh 2 1 2 1)))
 
--- one number of `pair` outside its range, each by itself
+-- states with a number outside its range, a state for each end of each range
 abbrev pub broken : List State
 broken =
     fresh 0 2 1 1
@@ -98,6 +99,10 @@ edges =
     ∷ update 0 (withStage 5) pair
     ∷ []
 
+-- the numbers of a process
+abbrev pub numbers : Process → List ℕ
+numbers h = h .stage ∷ h .node ∷ h .segment ∷ h .name ∷ h .steps ∷ []
+
 pub record Controls : Type 0 where
   -- setup checks 1 to 5 in that order: each of these is bad in every later way too
   pub setups : map (λ (d : ℕ × ℕ × ℕ × ℕ). setup (d .0) (d .1) (d .2) (d .3)) ((65, 3, 9, 9) ∷ (64, 3, 9, 9) ∷ (64, 16, 9, 9) ∷ (64, 16, 8, 9) ∷ (64, 16, 8, 8) ∷ [])
@@ -106,7 +111,10 @@ pub record Controls : Type 0 where
   pub lowest : setFirstZero 3 0 ≡ record { answer = 0; word = 1 }
   -- counters k / 2^(d+1), by node
   pub counters : fresh 64 16 2 2 .counters ≡ 0 ∷ 32 ∷ 16 ∷ 16 ∷ 8 ∷ 8 ∷ 8 ∷ 8 ∷ 4 ∷ 4 ∷ 4 ∷ 4 ∷ 4 ∷ 4 ∷ 4 ∷ 4 ∷ []
-  -- each range by itself, its ends, and unused places
+  -- fresh: 0, 1, 0, 255, 0; and 0 where the setup leaves a place unused
+  pub processes : map numbers (take 3 (pair .process)) ≡ (0 ∷ 1 ∷ 0 ∷ 255 ∷ 0 ∷ []) ∷ (0 ∷ 1 ∷ 0 ∷ 255 ∷ 0 ∷ []) ∷ replicate 5 0 ∷ []
+  pub unused : (pair .counters ≡ 0 ∷ 1 ∷ replicate 14 0) × (pair .words ≡ replicate 64 0) × (pair .queue ≡ replicate 64 0)
+  -- each range, its ends, and unused places
   pub out-of-range : map inRange broken ≡ replicate 24 false
   pub at-the-ends : map inRange whole ≡ replicate 10 true
   -- an event: 15 for the state, 12, 6, then 7, 8 or 9

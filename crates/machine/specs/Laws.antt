@@ -35,7 +35,7 @@ pub record Laws : Type 0 where
   pub clr-same : (w i : ℕ) → bit (clrBit w i) i ≡ 0
   pub clr-other : (w i j : ℕ) → j ≢ i → bit (clrBit w i) j ≡ bit w j
   -- a setup answers 0 or its refusal's number; it gives the fresh state or, refused, the blank one
-  pub answers-0-to-5 : (n l g b : ℕ) → setup n l g b .answer ≡ setupAnswer n l g b
+  pub setup-answer : (n l g b : ℕ) → setup n l g b .answer ≡ setupAnswer n l g b
   pub accepted-setup : (n l g b : ℕ) → setupAnswer n l g b ≡ 0 → setup n l g b ≡ done 0 (fresh n l g b)
   pub refused-setup : (n l g b : ℕ) → setupAnswer n l g b ≢ 0 → setup n l g b ≡ done (setupAnswer n l g b) blank
   -- the fresh state of every accepted setup is in range, its arrays of their lengths; the blank state is not in range

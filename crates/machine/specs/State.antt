@@ -1,5 +1,5 @@
 -- Document 01, section State: the parts of a state, how one of them changes, the fresh state and the blank one.
--- No other file builds a state or a process field by field.
+-- No other definition of the machine builds a state or a process field by field.
 use mathlib.Core.Path.{_≡_}
 use mathlib.Core.Bool.{cond, _&&_}
 use mathlib.Core.List.{List}

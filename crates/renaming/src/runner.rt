@@ -1,4 +1,4 @@
-// The one runner: it keeps the state in a local, and each event stores one process record and one shared place.
+// The one runner: it keeps the state in a local, and each event stores at most one process record and one shared place.
 use crate::journal;
 use machine::State;
 use operations::gate;

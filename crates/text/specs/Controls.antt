@@ -1,4 +1,4 @@
--- What the program prints for P11's file, byte for byte as document 01 shows it, and for refused files; `printed` in
+-- What the program prints for P11's file, byte for byte as document 01 shows it, and for a refused one; `printed` in
 -- proofs/Controls.antt computes each.
 use mathlib.Core.Path.{_≡_}
 use mathlib.Core.List.{List, [], _∷_, _++_}

@@ -27,7 +27,7 @@ pub record Read : Type 0 where
   pub p11 : (length p11-file ≡ 49) × (readSetup p11-file ≡ done 0 (fresh 2 1 1 1)) × (readEvents p11-file ≡ p11-body)
   -- a file of 27 bytes has no events
   pub shortest : (readSetup (contents 0 64 16 2 2) ≡ done 0 (fresh 64 16 2 2)) × (readEvents (contents 0 64 16 2 2) ≡ [])
-  -- a refused file gives its number and the blank state, and hands back an empty part
+  -- a refused file: its number and the blank state, and an empty part
   pub cut : (readSetup (84 ∷ 85 ∷ 82 ∷ 78 ∷ 2 ∷ []) ≡ done 10 blank) × (readEvents (84 ∷ 85 ∷ 82 ∷ 78 ∷ 2 ∷ []) ≡ [])
   pub odd : readSetup (contents 1 2 1 1 1 ++ 0 ∷ []) ≡ done 11 blank
   pub longer : (readSetup (contents 2 2 1 1 1 ++ ask 0 ++ ask 1) ≡ done 11 blank) × (readEvents (contents 2 2 1 1 1 ++ ask 0 ++ ask 1) ≡ [])

@@ -14,5 +14,8 @@ reached =
       two-admitted = refl;
       drawn-journal = refl;
       drawn-gate = (refl, refl);
+      drawn-nodes = refl;
+      drawn-segments = refl;
+      drawn-queue = (refl, refl);
       drawn-places = (refl, refl);
     }

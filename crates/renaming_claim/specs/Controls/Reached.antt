@@ -11,7 +11,7 @@ use Rattle.machine.specs.Reports.{statusOf}
 use Rattle.machine.specs.Runs.{ask, turn, finish, line}
 use Rattle.machine.specs.Setup.{height}
 use Rattle.machine.specs.Stage.{remainder, entry, waiting, getname, working, putname}
-use Rattle.machine.specs.State.{none, processAt, counterAt, wordAt, fresh}
+use Rattle.machine.specs.State.{none, processAt, counterAt, fresh}
 use Rattle.renaming_claim.specs.Claim.{afterList}
 
 -- one name for two processes: 0 wins it, 1 queues, 0 returns it, 1 goes on and wins it
@@ -68,4 +68,7 @@ pub record Reached : Type 0 where
       ∷ record { stage = waiting; name = none; steps = 0 }
       ∷ []
   pub drawn-gate : (afterList 5 2 2 1 drawn .gate ≡ negsuc 0) × (admitted (afterList 5 2 2 1 drawn) ≡ 4)
-  pub drawn-places : (counterAt (afterList 5 2 2 1 drawn) 1 ≡ 0) × (wordAt (afterList 5 2 2 1 drawn) 0 ≡ 1)
+  pub drawn-nodes : map (λ p. processAt (afterList 5 2 2 1 drawn) p .node) (0 ∷ 1 ∷ 2 ∷ 3 ∷ 4 ∷ []) ≡ 2 ∷ 2 ∷ 3 ∷ 1 ∷ 1 ∷ []
+  pub drawn-segments : map (λ p. processAt (afterList 5 2 2 1 drawn) p .segment) (0 ∷ 1 ∷ 2 ∷ 3 ∷ 4 ∷ []) ≡ 0 ∷ 1 ∷ 0 ∷ 0 ∷ 0 ∷ []
+  pub drawn-queue : (afterList 5 2 2 1 drawn .queued ≡ 1) × (take 1 (afterList 5 2 2 1 drawn .queue) ≡ 4 ∷ [])
+  pub drawn-places : (counterAt (afterList 5 2 2 1 drawn) 1 ≡ 0) × (take 4 (afterList 5 2 2 1 drawn .words) ≡ 1 ∷ 0 ∷ 0 ∷ 0 ∷ [])

@@ -117,7 +117,7 @@ rightAtOne =
       returns = putnameStep;
     }
 
--- a claim from the request to the win, over so many levels
+-- a request and three steps: past the gate, and the win where there is one level
 abbrev pub wins : ℕ → List ℕ
 wins p = ask p ++ turn p ++ turn p ++ turn p
 
