@@ -31,6 +31,15 @@ static void put_sum(uint8_t *stored) {
     for (int i = 0; i < 4; i++) stored[STATE_SIZE + i] = (uint8_t)(sum >> 8 * i);
 }
 
+/* One box on one state: takes a lock beside its file, which lasts until the program ends. */
+static int lock(const char *path) {
+    char aside[PATH_SIZE];
+    if ((size_t)snprintf(aside, sizeof aside, "%s.lock", path) >= sizeof aside) return 0;
+    int fd = open(aside, O_RDWR | O_CREAT, 0666);
+    struct flock whole = {.l_type = F_WRLCK, .l_whence = SEEK_SET};
+    return fd >= 0 && fcntl(fd, F_SETLK, &whole) == 0;
+}
+
 /* Writes out the folder of a file, so that its new name lasts. */
 static int sync_folder(const char *path) {
     char folder[PATH_SIZE] = ".";
@@ -64,7 +73,9 @@ static const char *restore(const char *path, const zevgorim_state *fresh, zevgor
     FILE *in = fopen(path, "rb");
     if (in == NULL) return errno == ENOENT ? none_saved : "saved state cannot be read";
     size_t size = fread(stored, 1, sizeof stored, in);
+    int failed = ferror(in);
     fclose(in);
+    if (failed) return "saved state cannot be read";
     if (size != STORED_SIZE) return "saved state damaged";
     memcpy(right, stored, STATE_SIZE);
     put_sum(right);
@@ -78,7 +89,7 @@ static const char *restore(const char *path, const zevgorim_state *fresh, zevgor
 }
 
 /* The reply to an event: its journal entry, as a line. */
-static void reply(const zevgorim_done *done, uint32_t handset) {
+static int reply(const zevgorim_done *done, uint32_t handset) {
     uint8_t entry[4] = {done->answer, 255, 255, 255}, line[16];
     int shown = done->answer != ZEVGORIM_KIND && done->answer != ZEVGORIM_STRANGER && done->answer != ZEVGORIM_BROKEN_STATE;
     if (shown) {
@@ -88,17 +99,28 @@ static void reply(const zevgorim_done *done, uint32_t handset) {
         entry[3] = process->steps;
     }
     zevgorim_text text = zevgorim_journal_text(entry, sizeof entry, line, sizeof line);
-    fwrite(line, 1, text.size, stdout);
-    fflush(stdout);
+    return fwrite(line, 1, text.size, stdout) == text.size && fflush(stdout) == 0;
 }
 
 /* Reads a number and moves past it; one of more than 32 bits becomes the largest, which every call refuses. */
 static int take_number(char **at, uint32_t *number) {
-    char *end;
-    unsigned long value = strtoul(*at, &end, 10);
-    if (end == *at) return 0;
+    char *end, *digits = *at + strspn(*at, " ");
+    unsigned long value = strtoul(digits, &end, 10);
+    if (*digits < '0' || *digits > '9') return 0;
     *number = value < UINT32_MAX ? (uint32_t)value : UINT32_MAX;
     *at = end;
+    return 1;
+}
+
+/* Reads a line without its end. One that is too long, or cut off by the input's end, is left empty: half a frame is none. */
+static int take_line(char *line, size_t size) {
+    size_t used = 0;
+    int c = getchar();
+    if (c == EOF) return 0;
+    for (; c != EOF && c != '\n'; c = getchar()) {
+        if (used < size) line[used++] = (char)c;
+    }
+    line[c == '\n' && used < size ? used : 0] = 0;
     return 1;
 }
 
@@ -106,9 +128,9 @@ static int take_number(char **at, uint32_t *number) {
 static int serve(const char *path, zevgorim_state state) {
     char frame[64];
     uint32_t kind, handset;
-    while (fgets(frame, sizeof frame, stdin) != NULL) {
+    while (take_line(frame, sizeof frame)) {
         char *at = frame;
-        if (!take_number(&at, &kind) || !take_number(&at, &handset) || *at != '\n') {
+        if (!take_number(&at, &kind) || !take_number(&at, &handset) || *at != 0) {
             fprintf(stderr, "live: not a frame\n");
             continue;
         }
@@ -119,7 +141,10 @@ static int serve(const char *path, zevgorim_state state) {
             return 1;
         }
         state = done.state;
-        reply(&done, handset);
+        if (!reply(&done, handset)) {
+            fprintf(stderr, "live: cannot reply\n");
+            return 1;
+        }
     }
     return 0;
 }
@@ -135,6 +160,10 @@ int main(int argc, char **argv) {
     zevgorim_done fresh = zevgorim_setup(number[0], number[1], number[2], number[3]);
     if (fresh.answer != ZEVGORIM_OK) {
         fprintf(stderr, "live: setup refused: %u\n", fresh.answer);
+        return 1;
+    }
+    if (!lock(argv[1])) {
+        fprintf(stderr, "live: another box is at work on %s\n", argv[1]);
         return 1;
     }
     zevgorim_state state = fresh.state;

@@ -1,5 +1,5 @@
-/* Runs a morning's day file event by event, and prints who takes which pad and who gives it back; then the roll at the busiest moment.
- * In the words of the committee table: a process is a handset, a name is a pad. */
+/* Runs a morning's day file event by event, and prints who takes which pad and who gives it back; then the roll at the moment when most
+ * handsets were not idle. In the words of the committee table: a process is a handset, a name is a pad. */
 #include <stdio.h>
 #include <stdlib.h>
 #include "zevgorim.h"
@@ -19,14 +19,23 @@ static zevgorim_state after(zevgorim_state state, uint8_t kind, uint8_t handset,
     return done.state;
 }
 
+/* How many handsets are not idle. */
+static unsigned busy(const zevgorim_state *state) {
+    unsigned count = 0;
+    for (unsigned h = 0; h < state->processes; h++) count += state->process[h].stage != ZEVGORIM_REMAINDER;
+    return count;
+}
+
 static void print_roll(zevgorim_state state, size_t number) {
+    static const char *const does[] = {"is idle", "asks", "waits", "claims", "holds", "returns", "is astray"};
     zevgorim_status roll[64];
     zevgorim_report gate = zevgorim_gate_report(state);
     if (zevgorim_fill_status(state, roll, 64) != ZEVGORIM_OK) return;
     printf("after event %zu: %u pads open at the gate, %u handsets queued\n", number, gate.free, gate.queued);
     for (unsigned h = 0; h < state.processes; h++) {
-        if (roll[h].stage == ZEVGORIM_WORKING) printf("  handset %u holds pad %u, won in %u turns\n", h, roll[h].name, roll[h].steps);
-        if (roll[h].stage == ZEVGORIM_WAITING) printf("  handset %u waits\n", h);
+        printf("  handset %u %s", h, does[roll[h].stage]);
+        if (roll[h].stage == ZEVGORIM_WORKING) printf(" pad %u, won in %u turns", roll[h].name, roll[h].steps);
+        puts("");
     }
 }
 
@@ -55,7 +64,7 @@ int main(int argc, char **argv) {
     size_t when = 0;
     for (size_t i = 0; i < part.size; i += 2) {
         state = after(state, events[i], events[i + 1], i / 2 + 1);
-        if (state.queued > busiest.queued) {
+        if (busy(&state) > busy(&busiest)) {
             busiest = state;
             when = i / 2 + 1;
         }

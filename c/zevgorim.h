@@ -18,7 +18,7 @@
  *   - A process in getname holds a name directly after one of the next h + g steps given to it at the latest, whatever comes between.
  *
  * This, what each call below gives and writes, and that every call ends, is proved of the Rattle source, for every argument that keeps
- * to `Lent memory` below.
+ * to `Lent memory` below. The radio lies outside: a frame that is heard twice is two events, and which handset sent it no call asks.
  *
  *
  * What you must do for it
@@ -26,7 +26,8 @@
  *   - Start from a state that zevgorim_setup or zevgorim_read_setup gave with answer 0.
  *   - Hand the state that a call gave, refused or not, to the next call that changes it, and drop the older one. One writer.
  *   - Store a state with a check sum. A state that was edited or damaged carries no claim, and often no call can tell: answer 15 looks
- *     at the ranges of the numbers, not at whether a list of events leads to them.
+ *     at the ranges of the numbers, not at whether a list of events leads to them. A later archive may lay a state out anew, so store
+ *     with it which one made it.
  *
  *
  * Platform
@@ -182,7 +183,7 @@ zevgorim_done zevgorim_request(zevgorim_state state, uint32_t process);
 zevgorim_done zevgorim_step(zevgorim_state state, uint32_t process);
 zevgorim_done zevgorim_release(zevgorim_state state, uint32_t process);
 
-/* A list of events, two bytes each: kind, process. A refused event changes no state and the list goes on.
+/* A list of events of any length, two bytes each: kind, process. A refused event changes no state and the list goes on.
  * The journal takes four bytes for each event: its answer, then stage, name and steps of the process after it; these three are 255 for
  * answers 6, 12 and 15. Bytes past them are untouched.
  * Refused with 14 for the list, 13 for the journal (shorter than twice the list), 15 for the state: the journal is untouched. */
@@ -218,8 +219,8 @@ zevgorim_part zevgorim_read_events(const uint8_t *file, size_t file_len);
  * out. 16 bytes for each line are always enough. */
 zevgorim_text zevgorim_journal_text(const uint8_t *journal, size_t journal_len, uint8_t *out, size_t out_len);
 
-/* The lines of a day file's journal. 16 bytes for each event are always enough, 262,144 for every file.
- * Of a file that zevgorim_file_answer refuses, `refused n` and a line feed, at most 11 bytes; the answer is then 0 too. */
+/* The lines of a day file's journal, at most 16 bytes for each event. Of a file that zevgorim_file_answer refuses, `refused n` and a line
+ * feed, at most 11 bytes; the answer is then 0 too. So 262,144 bytes are enough for every file. */
 zevgorim_text zevgorim_file_text(const uint8_t *file, size_t file_len, uint8_t *out, size_t out_len);
 
 #ifdef __cplusplus
