@@ -163,7 +163,7 @@ int main(int argc, char **argv) {
         return 1;
     }
     if (!lock(argv[1])) {
-        fprintf(stderr, "live: another box is at work on %s\n", argv[1]);
+        fprintf(stderr, "live: cannot lock %s: is another box at work on it?\n", argv[1]);
         return 1;
     }
     zevgorim_state state = fresh.state;
