@@ -25,7 +25,7 @@ fn fill_gate(rng: &mut Random, state: &mut State) {
         0 => -64,
         1 => k,
         2 => 0,
-        _ => rng.between(0, state.names() + 64) as i8 - 64,
+        _ => (i16::from(rng.between(0, state.names() + 64)) - 64) as i8,
     };
 }
 
