@@ -44,7 +44,7 @@ queueing =
 abbrev pub full : State
 full = withWord 0 1 (withWord 1 1 (update 0 (λ h. withStage 3 (withSegment 1 h)) (fresh 2 1 2 1)))
 
--- states with a number outside its range, a state for each end of each range
+-- states with a number outside its range, at each end that a range has
 abbrev pub broken : List State
 broken =
     fresh 0 2 1 1
@@ -112,8 +112,8 @@ pub record Controls : Type 0 where
   -- counters k / 2^(d+1), by node
   pub counters : fresh 64 16 2 2 .counters ≡ 0 ∷ 32 ∷ 16 ∷ 16 ∷ 8 ∷ 8 ∷ 8 ∷ 8 ∷ 4 ∷ 4 ∷ 4 ∷ 4 ∷ 4 ∷ 4 ∷ 4 ∷ 4 ∷ []
   -- fresh: 0, 1, 0, 255, 0; and 0 where the setup leaves a place unused
-  pub processes : map numbers (take 3 (pair .process)) ≡ (0 ∷ 1 ∷ 0 ∷ 255 ∷ 0 ∷ []) ∷ (0 ∷ 1 ∷ 0 ∷ 255 ∷ 0 ∷ []) ∷ replicate 5 0 ∷ []
-  pub unused : (pair .counters ≡ 0 ∷ 1 ∷ replicate 14 0) × (pair .words ≡ replicate 64 0) × (pair .queue ≡ replicate 64 0)
+  pub fresh-processes : map numbers (take 3 (pair .process)) ≡ (0 ∷ 1 ∷ 0 ∷ 255 ∷ 0 ∷ []) ∷ (0 ∷ 1 ∷ 0 ∷ 255 ∷ 0 ∷ []) ∷ replicate 5 0 ∷ []
+  pub fresh-unused : (pair .counters ≡ 0 ∷ 1 ∷ replicate 14 0) × (pair .words ≡ replicate 64 0) × (pair .queue ≡ replicate 64 0)
   -- each range, its ends, and unused places
   pub out-of-range : map inRange broken ≡ replicate 24 false
   pub at-the-ends : map inRange whole ≡ replicate 10 true
