@@ -4,12 +4,11 @@ use Rattle.machine.specs.State.{blank}
 use Rattle.fresh.proofs.blank_state.Statement.{statement}
 use Rattle.fresh.proofs.blank_state.Tie as tie
 
-no-process-requires : tie.Need-no-process-requires
-no-process-requires c κs = search needs
-
 returns : tie.Need-returns
 unfolding blank
 returns c = rw (c .no-process .ensures)
 
 pub blank-state-spec : {M : Type 1} → statement M
-blank-state-spec = tie.close (tie.spec no-process-requires returns)
+blank-state-spec = tie.close
+    (tie.spec
+    (λ c κs. search needs) returns)

@@ -36,21 +36,6 @@ loop-holds c =
     let k = c .args .k in
     (search needs, filled-start 16 (freshCounterAt l k) 0 1 (none-below l k))
 
-fresh-counter-requires : tie.Need-fresh-counter-requires Inv-loop μ-loop
-fresh-counter-requires c κs = search needs
-
-cast-counters : tie.Need-cast-counters Inv-loop μ-loop
-cast-counters c = omega arith
-
-array-write-counters : tie.Need-array-write-counters Inv-loop μ-loop
-array-write-counters c = omega arith
-
-add-v : tie.Need-add-v Inv-loop μ-loop
-add-v c = omega arith
-
-loop-less : tie.Need-loop-less Inv-loop μ-loop
-loop-less c = omega arith
-
 loop-again : tie.Need-loop-again Inv-loop μ-loop
 loop-again c =
     let at = c .before .before .loop in
@@ -73,14 +58,10 @@ returns c =
 pub fresh-counters-spec : {M : Type 1} → statement M
 fresh-counters-spec =
     tie.close
-    (tie.spec
-    Inv-loop
-    μ-loop
+    (tie.spec Inv-loop μ-loop
+    -- before the loop
     loop-holds
-    fresh-counter-requires
-    cast-counters
-    array-write-counters
-    add-v
-    loop-less
-    loop-again
+    -- a turn
+    (λ c κs. search needs) (λ c. omega arith) (λ c. omega arith) (λ c. omega arith) (λ c. omega arith) loop-again
+    -- after the loop
     returns)

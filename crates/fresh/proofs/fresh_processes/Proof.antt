@@ -25,31 +25,13 @@ Inv-loop n process₀ p₀ process p = process ≡ filled 64 (freshProcessAt n) 
 abbrev μ-loop : tie.MeasureT-loop
 μ-loop n process₀ p₀ process p = n - p
 
-no-process-requires : tie.Need-no-process-requires Inv-loop μ-loop
-no-process-requires c κs = search needs
-
 loop-holds : tie.Need-loop-holds Inv-loop μ-loop
 loop-holds c =
     rw (c .no-process .ensures)
     (filled-start 64 (freshProcessAt (c .before .args .n)) noProcess 0 (λ p e. absurd (not-suc-le-zero e)))
 
-fresh-process-requires : tie.Need-fresh-process-requires Inv-loop μ-loop
-fresh-process-requires c κs = search needs
-
-cast-process : tie.Need-cast-process Inv-loop μ-loop
-cast-process c = omega arith
-
-mul-process : tie.Need-mul-process Inv-loop μ-loop
-mul-process c = omega arith
-
 array-set-from-process : tie.Need-array-set-from-process Inv-loop μ-loop
 array-set-from-process c = let below : c .before .before .loop .p < 64 = omega arith in below
-
-add-p : tie.Need-add-p Inv-loop μ-loop
-add-p c = omega arith
-
-loop-less : tie.Need-loop-less Inv-loop μ-loop
-loop-less c = omega arith
 
 loop-again : tie.Need-loop-again Inv-loop μ-loop
 loop-again c =
@@ -69,16 +51,11 @@ returns c =
 pub fresh-processes-spec : {M : Type 1} → statement M
 fresh-processes-spec =
     tie.close
-    (tie.spec
-    Inv-loop
-    μ-loop
-    no-process-requires
-    loop-holds
-    fresh-process-requires
-    cast-process
-    mul-process
-    array-set-from-process
-    add-p
-    loop-less
-    loop-again
+    (tie.spec Inv-loop μ-loop
+    -- up to the loop
+    (λ c κs. search needs) loop-holds
+    -- a turn
+    (λ c κs. search needs) (λ c. omega arith) (λ c. omega arith) array-set-from-process (λ c. omega arith)
+    (λ c. omega arith) loop-again
+    -- after the loop
     returns)

@@ -9,37 +9,15 @@ Inv-loop turns₀ turns = Unit {0}
 abbrev μ-loop : tie.MeasureT-loop
 μ-loop turns₀ turns = turns
 
-loop-holds : tie.Need-loop-holds Inv-loop μ-loop
-loop-holds c = search needs
-
-next-requires : tie.Need-next-requires Inv-loop μ-loop
-next-requires c κs = search needs
-
-returns : tie.Need-returns Inv-loop μ-loop
-returns c = search needs
-
-sub-turns : tie.Need-sub-turns Inv-loop μ-loop
-sub-turns c = search needs
-
-loop-less : tie.Need-loop-less Inv-loop μ-loop
-loop-less c = search needs
-
-loop-again : tie.Need-loop-again Inv-loop μ-loop
-loop-again c = search needs
-
-returns-2 : tie.Need-returns-2 Inv-loop μ-loop
-returns-2 c = search needs
-
 pub main-spec : {M : Type 1} → statement M
 main-spec =
     tie.close
-    (tie.spec
-    Inv-loop
-    μ-loop
-    loop-holds
-    next-requires
-    returns
-    sub-turns
-    loop-less
-    loop-again
-    returns-2)
+    (tie.spec Inv-loop μ-loop
+    -- before the loop
+    (λ c. search needs)
+    -- `!roll::next()`
+    (λ c κs. search needs) (λ c. search needs)
+    -- a turn
+    (λ c. search needs) (λ c. search needs) (λ c. search needs)
+    -- otherwise
+    (λ c. search needs))

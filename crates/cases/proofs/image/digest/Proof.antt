@@ -7,36 +7,6 @@ use borrow.Author.Needs.{needs}
 use Rattle.cases.proofs.image.digest.Statement.{statement}
 use Rattle.cases.proofs.image.digest.Tie as tie
 
-unsigned-requires : tie.Need-unsigned-requires
-unsigned-requires c κs = search needs
-
-slice-aggregate-mix-bytes : tie.Need-slice-aggregate-mix-bytes
-slice-aggregate-mix-bytes c = search needs
-
-mix-bytes-requires : tie.Need-mix-bytes-requires
-mix-bytes-requires c κs = search needs
-
-slice-aggregate-mix-bytes-2 : tie.Need-slice-aggregate-mix-bytes-2
-slice-aggregate-mix-bytes-2 c = search needs
-
-mix-bytes-requires-2 : tie.Need-mix-bytes-requires-2
-mix-bytes-requires-2 c κs = search needs
-
-slice-aggregate-mix-bytes-3 : tie.Need-slice-aggregate-mix-bytes-3
-slice-aggregate-mix-bytes-3 c = search needs
-
-mix-bytes-requires-3 : tie.Need-mix-bytes-requires-3
-mix-bytes-requires-3 c κs = search needs
-
-slice-aggregate-mix-bytes-4 : tie.Need-slice-aggregate-mix-bytes-4
-slice-aggregate-mix-bytes-4 c = search needs
-
-mix-bytes-requires-4 : tie.Need-mix-bytes-requires-4
-mix-bytes-requires-4 c κs = search needs
-
-mix-processes-requires : tie.Need-mix-processes-requires
-mix-processes-requires c κs = search needs
-
 returns : tie.Need-returns
 unfolding imageOf
 returns c =
@@ -56,14 +26,6 @@ pub digest-spec : {M : Type 1} → statement M
 digest-spec =
     tie.close
     (tie.spec
-    unsigned-requires
-    slice-aggregate-mix-bytes
-    mix-bytes-requires
-    slice-aggregate-mix-bytes-2
-    mix-bytes-requires-2
-    slice-aggregate-mix-bytes-3
-    mix-bytes-requires-3
-    slice-aggregate-mix-bytes-4
-    mix-bytes-requires-4
-    mix-processes-requires
+    (λ c κs. search needs) (λ c. search needs) (λ c κs. search needs) (λ c. search needs) (λ c κs. search needs)
+    (λ c. search needs) (λ c κs. search needs) (λ c. search needs) (λ c κs. search needs) (λ c κs. search needs)
     returns)

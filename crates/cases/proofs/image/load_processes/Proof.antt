@@ -18,26 +18,8 @@ Inv-loop image process₀ p₀ process p =
 abbrev μ-loop : tie.MeasureT-loop
 μ-loop image process₀ p₀ process p = 64 - p
 
-load-process-requires : tie.Need-load-process-requires Inv-loop μ-loop
-load-process-requires c κs = search needs
-
 loop-holds : tie.Need-loop-holds Inv-loop μ-loop
 loop-holds c = (omega arith, refl, λ j k. absurd (omega (arith, k)))
-
-load-process-requires-2 : tie.Need-load-process-requires-2 Inv-loop μ-loop
-load-process-requires-2 c κs = search needs
-
-mul-process : tie.Need-mul-process Inv-loop μ-loop
-mul-process c = search needs
-
-array-set-from-process : tie.Need-array-set-from-process Inv-loop μ-loop
-array-set-from-process c = search needs
-
-add-p : tie.Need-add-p Inv-loop μ-loop
-add-p c = search needs
-
-loop-less : tie.Need-loop-less Inv-loop μ-loop
-loop-less c = search needs
 
 loop-again : tie.Need-loop-again Inv-loop μ-loop
 loop-again c =
@@ -59,15 +41,10 @@ returns c =
 pub load-processes-spec : {M : Type 1} → statement M
 load-processes-spec =
     tie.close
-    (tie.spec
-    Inv-loop
-    μ-loop
-    load-process-requires
-    loop-holds
-    load-process-requires-2
-    mul-process
-    array-set-from-process
-    add-p
-    loop-less
-    loop-again
+    (tie.spec Inv-loop μ-loop
+    -- up to the loop
+    (λ c κs. search needs) loop-holds
+    -- a turn
+    (λ c κs. search needs) (λ c. search needs) (λ c. search needs) (λ c. search needs) (λ c. search needs) loop-again
+    -- after the loop
     returns)

@@ -21,18 +21,6 @@ abbrev μ-loop : tie.MeasureT-loop
 loop-holds : tie.Need-loop-holds Inv-loop μ-loop
 loop-holds c = (omega arith, c .before .pre, refl)
 
-shared-slice-read-mix : tie.Need-shared-slice-read-mix Inv-loop μ-loop
-shared-slice-read-mix c = search needs
-
-mix-requires : tie.Need-mix-requires Inv-loop μ-loop
-mix-requires c κs = c .before .before .loop .inv .1
-
-add-i : tie.Need-add-i Inv-loop μ-loop
-add-i c = search needs
-
-loop-less : tie.Need-loop-less Inv-loop μ-loop
-loop-less c = search needs
-
 loop-again : tie.Need-loop-again Inv-loop μ-loop
 unfolding digestFrom
 loop-again c =
@@ -54,13 +42,10 @@ returns c =
 pub mix-bytes-spec : {M : Type 1} → statement M
 mix-bytes-spec =
     tie.close
-    (tie.spec
-    Inv-loop
-    μ-loop
+    (tie.spec Inv-loop μ-loop
+    -- before the loop
     loop-holds
-    shared-slice-read-mix
-    mix-requires
-    add-i
-    loop-less
-    loop-again
+    -- a turn
+    (λ c. search needs) (λ c κs. c .before .before .loop .inv .1) (λ c. search needs) (λ c. search needs) loop-again
+    -- after the loop
     returns)

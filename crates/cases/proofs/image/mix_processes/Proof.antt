@@ -35,24 +35,6 @@ step d hs p k =
     ap (λ (l : List Process). digestFrom d (processesBytes l)) (drop-cons hs p noProcess k)
     ∙ digest-append d (processBytes (getD hs p noProcess)) (processesBytes (drop (suc p) hs))
 
-loop-holds : tie.Need-loop-holds Inv-loop μ-loop
-loop-holds c = (omega arith, c .pre, refl)
-
-mul-h : tie.Need-mul-h Inv-loop μ-loop
-mul-h c = search needs
-
-element-copy-out-h : tie.Need-element-copy-out-h Inv-loop μ-loop
-element-copy-out-h c = search needs
-
-mix-process-requires : tie.Need-mix-process-requires Inv-loop μ-loop
-mix-process-requires c κs = c .before .before .loop .inv .1
-
-add-p : tie.Need-add-p Inv-loop μ-loop
-add-p c = search needs
-
-loop-less : tie.Need-loop-less Inv-loop μ-loop
-loop-less c = search needs
-
 loop-again : tie.Need-loop-again Inv-loop μ-loop
 loop-again c =
     let l = c .before .before .before .loop in
@@ -76,14 +58,11 @@ returns c =
 pub mix-processes-spec : {M : Type 1} → statement M
 mix-processes-spec =
     tie.close
-    (tie.spec
-    Inv-loop
-    μ-loop
-    loop-holds
-    mul-h
-    element-copy-out-h
-    mix-process-requires
-    add-p
-    loop-less
-    loop-again
+    (tie.spec Inv-loop μ-loop
+    -- before the loop
+    (λ c. (omega arith, c .pre, refl))
+    -- a turn
+    (λ c. search needs) (λ c. search needs) (λ c κs. c .before .before .loop .inv .1) (λ c. search needs)
+    (λ c. search needs) loop-again
+    -- after the loop
     returns)

@@ -8,17 +8,13 @@ use borrow.Author.Needs.{needs}
 use Rattle.cases.proofs.image.signed.Statement.{statement}
 use Rattle.cases.proofs.image.signed.Tie as tie
 
-cast-result : tie.Need-cast-result
-cast-result c = search needs
-
-returns : tie.Need-returns
-returns c = refl
-
-cast-result-2 : tie.Need-cast-result-2
-cast-result-2 c = search needs
-
 returns-2 : tie.Need-returns-2
 returns-2 c = let same : 255 - (255 - c .before .args .x) ≡ c .before .args .x = omega (arith, c .before .fits .x .fits) in ap (λ (n : ℕ). toZ w8 n) same
 
 pub signed-spec : {M : Type 1} → statement M
-signed-spec = tie.close (tie.spec cast-result returns cast-result-2 returns-2)
+signed-spec = tie.close
+    (tie.spec
+    -- `x < 128`
+    (λ c. search needs) (λ c. refl)
+    -- otherwise
+    (λ c. search needs) returns-2)

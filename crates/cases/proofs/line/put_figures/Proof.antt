@@ -20,20 +20,8 @@ loop-holds : tie.Need-loop-holds Inv-loop μ-loop
 unfolding figures
 loop-holds c = let s = c .before .before in (omega arith, put-none (s .args .line .now) (s .args .at) (s .pre))
 
-mul-put-figure : tie.Need-mul-put-figure Inv-loop μ-loop
-mul-put-figure c = search needs
-
-shared-slice-read-put-figure : tie.Need-shared-slice-read-put-figure Inv-loop μ-loop
-shared-slice-read-put-figure c = search needs
-
 put-figure-requires : tie.Need-put-figure-requires Inv-loop μ-loop
 put-figure-requires c κs = put-within (c .before .before .before .loop .inv .1)
-
-add-i : tie.Need-add-i Inv-loop μ-loop
-add-i c = search needs
-
-loop-less : tie.Need-loop-less Inv-loop μ-loop
-loop-less c = search needs
 
 loop-again : tie.Need-loop-again Inv-loop μ-loop
 loop-again c =
@@ -57,15 +45,10 @@ returns c =
 pub put-figures-spec : {M : Type 1} → statement M
 put-figures-spec =
     tie.close
-    (tie.spec
-    Inv-loop
-    μ-loop
+    (tie.spec Inv-loop μ-loop
+    -- before the loop
     loop-holds
-    mul-put-figure
-    shared-slice-read-put-figure
-    put-figure-requires
-    add-i
-    loop-less
-    loop-again
-    same-length
-    returns)
+    -- a turn
+    (λ c. search needs) (λ c. search needs) put-figure-requires (λ c. search needs) (λ c. search needs) loop-again
+    -- after the loop
+    same-length returns)

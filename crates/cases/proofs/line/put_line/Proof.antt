@@ -6,21 +6,6 @@ use borrow.Author.Needs.{needs}
 use Rattle.cases.proofs.line.put_line.Statement.{statement}
 use Rattle.cases.proofs.line.put_line.Tie as tie
 
-put-text-requires : tie.Need-put-text-requires
-put-text-requires c κs = search needs
-
-put-figures-requires : tie.Need-put-figures-requires
-put-figures-requires c κs = search needs
-
-slice-aggregate-put-text : tie.Need-slice-aggregate-put-text
-slice-aggregate-put-text c = search needs
-
-put-text-requires-2 : tie.Need-put-text-requires-2
-put-text-requires-2 c κs = search needs
-
-same-length : tie.Need-same-length
-same-length c = search needs
-
 returns : tie.Need-returns
 unfolding lineOf
 returns c =
@@ -38,9 +23,5 @@ pub put-line-spec : {M : Type 1} → statement M
 put-line-spec =
     tie.close
     (tie.spec
-    put-text-requires
-    put-figures-requires
-    slice-aggregate-put-text
-    put-text-requires-2
-    same-length
+    (λ c κs. search needs) (λ c κs. search needs) (λ c. search needs) (λ c κs. search needs) (λ c. search needs)
     returns)

@@ -15,31 +15,10 @@ Inv-loop queue₀ i₀ queue i = (i ≤ 63) × (queue ≡ movedTo i queue₀) ×
 abbrev μ-loop : tie.MeasureT-loop
 μ-loop queue₀ i₀ queue i = 63 - i
 
-loop-holds : tie.Need-loop-holds Inv-loop μ-loop
-loop-holds c = (search needs, refl, c .pre)
-
-add-x : tie.Need-add-x Inv-loop μ-loop
-add-x c = search needs
-
-element-copy-out-x : tie.Need-element-copy-out-x Inv-loop μ-loop
-element-copy-out-x c = search needs
-
-element-write-queue : tie.Need-element-write-queue Inv-loop μ-loop
-element-write-queue c = search needs
-
-add-i : tie.Need-add-i Inv-loop μ-loop
-add-i c = search needs
-
-loop-less : tie.Need-loop-less Inv-loop μ-loop
-loop-less c = search needs
-
 loop-again : tie.Need-loop-again Inv-loop μ-loop
 loop-again c =
     let inv = c .before .before .loop .inv in
     (search needs, rw (inv .1) (move (c .before .before .before .args .queue .now) (c .before .before .loop .i) (omega arith)), inv .2)
-
-element-write-queue-2 : tie.Need-element-write-queue-2 Inv-loop μ-loop
-element-write-queue-2 c = search needs
 
 returns : tie.Need-returns Inv-loop μ-loop
 unfolding movedUp
@@ -51,15 +30,10 @@ returns c =
 pub advance-spec : {M : Type 1} → statement M
 advance-spec =
     tie.close
-    (tie.spec
-    Inv-loop
-    μ-loop
-    loop-holds
-    add-x
-    element-copy-out-x
-    element-write-queue
-    add-i
-    loop-less
-    loop-again
-    element-write-queue-2
-    returns)
+    (tie.spec Inv-loop μ-loop
+    -- before the loop
+    (λ c. (search needs, refl, c .pre))
+    -- a turn
+    (λ c. search needs) (λ c. search needs) (λ c. search needs) (λ c. search needs) (λ c. search needs) loop-again
+    -- after the loop
+    (λ c. search needs) returns)

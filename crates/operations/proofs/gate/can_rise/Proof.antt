@@ -5,11 +5,10 @@ use borrow.Author.Needs.{needs}
 use Rattle.operations.proofs.gate.can_rise.Statement.{statement}
 use Rattle.operations.proofs.gate.can_rise.Tie as tie
 
-cast-top : tie.Need-cast-top
-cast-top c = search needs
-
 returns : tie.Need-returns
 returns c = rw (toZ-ofZ (c .fits .a), as-signed (c .args .k) (c .pre)) (rise-is (c .args .k) (c .args .a))
 
 pub can-rise-spec : {M : Type 1} → statement M
-can-rise-spec = tie.close (tie.spec cast-top returns)
+can-rise-spec = tie.close
+    (tie.spec
+    (λ c. search needs) returns)

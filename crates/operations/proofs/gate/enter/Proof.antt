@@ -8,12 +8,6 @@ use borrow.Author.Needs.{needs}
 use Rattle.operations.proofs.gate.enter.Statement.{statement}
 use Rattle.operations.proofs.gate.enter.Tie as tie
 
-can-fall-requires : tie.Need-can-fall-requires
-can-fall-requires c κs = search needs
-
-is-above-requires : tie.Need-is-above-requires
-is-above-requires c κs = search needs
-
 lowered-requires : tie.Need-lowered-requires
 lowered-requires c κs = sym (c .before .before .before .can-fall .ensures) ∙ c .before .before .if1 .taken
 
@@ -26,14 +20,8 @@ returns c =
     let q = rw e at (sym (c .before .before .is-above .ensures) ∙ c .before .if2 .taken) in
     (simp (c .lowered .ensures, e, toZ-ofZ (pred-fits (s .args .a) (s .fits .a) p), p, q), simp (p, q))
 
-element-write-queue : tie.Need-element-write-queue
-element-write-queue c = search needs
-
 lowered-requires-2 : tie.Need-lowered-requires-2
 lowered-requires-2 c κs = sym (c .before .before .before .before .can-fall .ensures) ∙ c .before .before .before .if1 .taken
-
-add-t15 : tie.Need-add-t15
-add-t15 c = search needs
 
 returns-2 : tie.Need-returns-2
 unfolding entered enteredQueue
@@ -65,13 +53,11 @@ pub enter-spec : {M : Type 1} → statement M
 enter-spec =
     tie.close
     (tie.spec
-    can-fall-requires
-    is-above-requires
-    lowered-requires
-    returns
-    element-write-queue
-    lowered-requires-2
-    add-t15
-    returns-2
+    -- `return Gated {`
+    (λ c κs. search needs) (λ c κs. search needs) lowered-requires returns
+    -- `return Gated {`
+    (λ c. search needs) lowered-requires-2 (λ c. search needs) returns-2
+    -- otherwise
     returns-3
+    -- otherwise
     returns-4)

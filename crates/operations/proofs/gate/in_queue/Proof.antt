@@ -23,20 +23,11 @@ loop-holds : tie.Need-loop-holds Inv-loop μ-loop
 unfolding allBelow
 loop-holds c = (search needs, refl)
 
-element-copy-out-if1 : tie.Need-element-copy-out-if1 Inv-loop μ-loop
-element-copy-out-if1 c = search needs
-
 returns : tie.Need-returns Inv-loop μ-loop
 unfolding among
 returns c =
     let a = c .before .before .before .before .args in
     sym (ap not (all-fails (a .n) (λ (j : ℕ). not (eqb (getD (a .queue .now) j 0) (a .p))) (c .before .before .before .loop .i) (search needs) (search tests)))
-
-add-i : tie.Need-add-i Inv-loop μ-loop
-add-i c = search needs
-
-loop-less : tie.Need-loop-less Inv-loop μ-loop
-loop-less c = search needs
 
 loop-again : tie.Need-loop-again Inv-loop μ-loop
 loop-again c =
@@ -52,13 +43,12 @@ returns-2 c = sym (ap not (rw (le-antisymm (c .before .loop .inv .0) (c .loop-te
 pub in-queue-spec : {M : Type 1} → statement M
 in-queue-spec =
     tie.close
-    (tie.spec
-    Inv-loop
-    μ-loop
+    (tie.spec Inv-loop μ-loop
+    -- before the loop
     loop-holds
-    element-copy-out-if1
-    returns
-    add-i
-    loop-less
-    loop-again
+    -- `queue[i] == p`
+    (λ c. search needs) returns
+    -- a turn
+    (λ c. search needs) (λ c. search needs) loop-again
+    -- otherwise
     returns-2)

@@ -10,17 +10,8 @@ use borrow.Author.Needs.{needs}
 use Rattle.operations.proofs.gate.leave.Statement.{statement}
 use Rattle.operations.proofs.gate.leave.Tie as tie
 
-can-rise-requires : tie.Need-can-rise-requires
-can-rise-requires c κs = search needs
-
 raised-requires : tie.Need-raised-requires
 raised-requires c κs = (sym (c .before .can-rise .ensures) ∙ c .if1 .taken, c .before .before .pre .0)
-
-advance-requires : tie.Need-advance-requires
-advance-requires c κs = search needs
-
-sub-t12 : tie.Need-sub-t12
-sub-t12 c = search needs
 
 returns : tie.Need-returns
 unfolding departed departedQueue
@@ -54,10 +45,9 @@ pub leave-spec : {M : Type 1} → statement M
 leave-spec =
     tie.close
     (tie.spec
-    can-rise-requires
-    raised-requires
-    advance-requires
-    sub-t12
-    returns
+    -- `return Gated {`
+    (λ c κs. search needs) raised-requires (λ c κs. search needs) (λ c. search needs) returns
+    -- `return Gated {`
     returns-2
+    -- otherwise
     returns-3)

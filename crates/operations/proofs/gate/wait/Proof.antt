@@ -6,9 +6,6 @@ use borrow.Author.Needs.{needs}
 use Rattle.operations.proofs.gate.wait.Statement.{statement}
 use Rattle.operations.proofs.gate.wait.Tie as tie
 
-in-queue-requires : tie.Need-in-queue-requires
-in-queue-requires c κs = search needs
-
 returns : tie.Need-returns
 unfolding awaited
 returns c = search (tests, sym (c .before .in-queue .ensures) ∙ c .if1 .taken)
@@ -18,4 +15,9 @@ unfolding awaited
 returns-2 c = search (tests, sym (c .before .in-queue .ensures) ∙ c .if1 .left)
 
 pub wait-spec : {M : Type 1} → statement M
-wait-spec = tie.close (tie.spec in-queue-requires returns returns-2)
+wait-spec = tie.close
+    (tie.spec
+    -- `in_queue(queue, n, p)`
+    (λ c κs. search needs) returns
+    -- otherwise
+    returns-2)

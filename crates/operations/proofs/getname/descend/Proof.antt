@@ -5,15 +5,6 @@ use borrow.Author.Needs.{needs}
 use Rattle.operations.proofs.getname.descend.Statement.{statement}
 use Rattle.operations.proofs.getname.descend.Tie as tie
 
-bounded-decrement-requires : tie.Need-bounded-decrement-requires
-bounded-decrement-requires c κs = search needs
-
-side-of-requires : tie.Need-side-of-requires
-side-of-requires c κs = search needs
-
-claim-requires : tie.Need-claim-requires
-claim-requires c κs = search needs
-
 returns : tie.Need-returns
 unfolding descended
 returns c = simp (lt-ltb _ _ (c .before .before .before .if1 .taken), c .claim .ensures, c .before .side-of .ensures, c .before .before .bounded-decrement .ensures)
@@ -25,4 +16,8 @@ returns-2 c = simp (le-ltb _ _ (c .if1 .left))
 pub descend-spec : {M : Type 1} → statement M
 descend-spec =
     tie.close
-    (tie.spec bounded-decrement-requires side-of-requires claim-requires returns returns-2)
+    (tie.spec
+    -- `return Moved {`
+    (λ c κs. search needs) (λ c κs. search needs) (λ c κs. search needs) returns
+    -- otherwise
+    returns-2)

@@ -5,15 +5,6 @@ use borrow.Author.Needs.{needs}
 use Rattle.operations.proofs.getname.side_of.Statement.{statement}
 use Rattle.operations.proofs.getname.side_of.Tie as tie
 
-mul-t5 : tie.Need-mul-t5
-mul-t5 c = search needs
-
-mul-t6 : tie.Need-mul-t6
-mul-t6 c = search needs
-
-add-t7 : tie.Need-add-t7
-add-t7 c = search needs
-
 returns : tie.Need-returns
 unfolding side
 returns c = search tests
@@ -23,4 +14,9 @@ unfolding side
 returns-2 c = search tests
 
 pub side-of-spec : {M : Type 1} → statement M
-side-of-spec = tie.close (tie.spec mul-t5 mul-t6 add-t7 returns returns-2)
+side-of-spec = tie.close
+    (tie.spec
+    -- otherwise
+    (λ c. search needs) (λ c. search needs) (λ c. search needs) returns
+    -- otherwise
+    returns-2)

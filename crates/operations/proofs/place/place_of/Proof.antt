@@ -12,9 +12,6 @@ returns : tie.Need-returns
 unfolding placeOf
 returns c = let a = c .before .before .before .args in at-kind 0 (a .kind) (a .l) (a .g) (a .b) (a .h) (c .before .before .match .keys1) (search tests)
 
-step-place-requires : tie.Need-step-place-requires
-step-place-requires c κs = search needs
-
 returns-2 : tie.Need-returns-2
 unfolding placeOf
 returns-2 c = let a = c .before .before .before .args in at-kind 2 (a .kind) (a .l) (a .g) (a .b) (a .h) (c .before .before .match .keys3) (search tests)
@@ -37,4 +34,16 @@ returns-6 c = sym (kind-above _ _ _ _ _ (omega (arith, c .match .rest .0 .0 .1, 
 pub place-of-spec : {M : Type 1} → statement M
 place-of-spec =
     tie.close
-    (tie.spec returns step-place-requires returns-2 returns-3 returns-4 returns-5 returns-6)
+    (tie.spec
+    -- `h.stage == 0`
+    returns
+    -- `h.stage == 4`
+    (λ c κs. search needs) returns-2
+    -- otherwise
+    returns-3
+    -- otherwise
+    returns-4
+    -- otherwise
+    returns-5
+    -- otherwise
+    returns-6)

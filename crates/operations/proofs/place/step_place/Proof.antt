@@ -19,12 +19,6 @@ mul-t11 c = omega (arith, segment-sum (c .before .before .before .before .pre) (
 add-t12 : tie.Need-add-t12
 add-t12 c = omega (arith, segment-sum (c .before .before .before .before .before .pre) (c .before .before .if1 .left))
 
-div-t14 : tie.Need-div-t14
-div-t14 c = search needs
-
-rem-t15 : tie.Need-rem-t15
-rem-t15 c = search needs
-
 returns-2 : tie.Need-returns-2
 unfolding stepPlace
 returns-2 c = let a = c .before .before .before .before .before .args in at-stage 5 (a .l) (a .g) (a .b) (a .h) (c .before .before .before .before .match .keys6) (search tests)
@@ -72,19 +66,27 @@ pub step-place-spec : {M : Type 1} → statement M
 step-place-spec =
     tie.close
     (tie.spec
+    -- `h.node < l`
     returns
-    mul-t11
-    add-t12
-    div-t14
-    rem-t15
-    returns-2
+    -- `h.name != 255`
+    mul-t11 add-t12 (λ c. search needs) (λ c. search needs) returns-2
+    -- `h.node % 2 == 0`
     returns-3
+    -- `h.node > 1`
     returns-4
+    -- otherwise
     returns-5
+    -- otherwise
     returns-6
+    -- otherwise
     returns-7
+    -- otherwise
     returns-8
+    -- otherwise
     returns-9
+    -- otherwise
     returns-10
+    -- otherwise
     returns-11
+    -- otherwise
     returns-12)

@@ -5,12 +5,6 @@ use borrow.Author.Needs.{needs}
 use Rattle.operations.proofs.putname.climb.Statement.{statement}
 use Rattle.operations.proofs.putname.climb.Tie as tie
 
-fresh-counter-requires : tie.Need-fresh-counter-requires
-fresh-counter-requires c κs = search needs
-
-add-t8 : tie.Need-add-t8
-add-t8 c = search needs
-
 returns : tie.Need-returns
 unfolding climbed
 returns c = search (tests, rw (c .before .fresh-counter .ensures) at (c .if1 .taken))
@@ -20,4 +14,9 @@ unfolding climbed
 returns-2 c = search (tests, rw (c .before .fresh-counter .ensures) at (c .if1 .left))
 
 pub climb-spec : {M : Type 1} → statement M
-climb-spec = tie.close (tie.spec fresh-counter-requires add-t8 returns returns-2)
+climb-spec = tie.close
+    (tie.spec
+    -- `return Moved {`
+    (λ c κs. search needs) (λ c. search needs) returns
+    -- otherwise
+    returns-2)

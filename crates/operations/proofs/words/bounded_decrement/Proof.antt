@@ -9,12 +9,14 @@ returns : tie.Need-returns
 unfolding boundedDecrement
 returns c = rw (c .if1 .taken)
 
-sub-t3 : tie.Need-sub-t3
-sub-t3 c = search needs
-
 returns-2 : tie.Need-returns-2
 unfolding boundedDecrement
 returns-2 c = simp (ne-eqb _ _ (c .if1 .left))
 
 pub bounded-decrement-spec : {M : Type 1} → statement M
-bounded-decrement-spec = tie.close (tie.spec returns sub-t3 returns-2)
+bounded-decrement-spec = tie.close
+    (tie.spec
+    -- `c == 0`
+    returns
+    -- otherwise
+    (λ c. search needs) returns-2)

@@ -6,12 +6,6 @@ use borrow.Author.Needs.{needs}
 use Rattle.operations.proofs.words.clr_bit.Statement.{statement}
 use Rattle.operations.proofs.words.clr_bit.Tie as tie
 
-shr-if1 : tie.Need-shr-if1
-shr-if1 c = search needs
-
-power-requires : tie.Need-power-requires
-power-requires c κs = search needs
-
 sub-result : tie.Need-sub-result
 sub-result c =
     let a = c .before .before .args in
@@ -26,4 +20,9 @@ unfolding clrBit
 returns-2 c = simp (ne-eqb _ _ (c .if1 .left))
 
 pub clr-bit-spec : {M : Type 1} → statement M
-clr-bit-spec = tie.close (tie.spec shr-if1 power-requires sub-result returns returns-2)
+clr-bit-spec = tie.close
+    (tie.spec
+    -- otherwise
+    (λ c. search needs) (λ c κs. search needs) sub-result returns
+    -- otherwise
+    returns-2)

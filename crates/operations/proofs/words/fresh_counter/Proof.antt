@@ -9,9 +9,6 @@ use borrow.Author.Needs.{needs}
 use Rattle.operations.proofs.words.fresh_counter.Statement.{statement}
 use Rattle.operations.proofs.words.fresh_counter.Tie as tie
 
-array-read-result : tie.Need-array-read-result
-array-read-result c = search needs
-
 shr-result : tie.Need-shr-result
 shr-result c = level-small (c .before .args .v) (c .if1 .taken)
 
@@ -26,4 +23,9 @@ returns-2 c =
     simp (le-ltb v 2 (omega (arith, high)), le-ltb v 4 (omega (arith, high)), le-ltb v 8 (omega (arith, high)), le-ltb v 16 high)
 
 pub fresh-counter-spec : {M : Type 1} → statement M
-fresh-counter-spec = tie.close (tie.spec array-read-result shr-result returns returns-2)
+fresh-counter-spec = tie.close
+    (tie.spec
+    -- `v < 16`
+    (λ c. search needs) shr-result returns
+    -- otherwise
+    returns-2)

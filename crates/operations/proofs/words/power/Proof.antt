@@ -4,11 +4,7 @@ use borrow.Author.Needs.{needs}
 use Rattle.operations.proofs.words.power.Statement.{statement}
 use Rattle.operations.proofs.words.power.Tie as tie
 
-shl-result : tie.Need-shl-result
-shl-result c = search needs
-
-returns : tie.Need-returns
-returns c = shifted-is (c .args .i) (c .pre)
-
 pub power-spec : {M : Type 1} → statement M
-power-spec = tie.close (tie.spec shl-result returns)
+power-spec = tie.close
+    (tie.spec
+    (λ c. search needs) (λ c. shifted-is (c .args .i) (c .pre)))

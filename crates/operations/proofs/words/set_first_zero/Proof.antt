@@ -7,12 +7,6 @@ use borrow.Author.Needs.{needs}
 use Rattle.operations.proofs.words.set_first_zero.Statement.{statement}
 use Rattle.operations.proofs.words.set_first_zero.Tie as tie
 
-first-zero-requires : tie.Need-first-zero-requires
-first-zero-requires c κs = search needs
-
-power-requires : tie.Need-power-requires
-power-requires c κs = search needs
-
 add-t6 : tie.Need-add-t6
 add-t6 c =
     let b = c .before .before .before .args .b in
@@ -35,4 +29,9 @@ returns-2 c =
 
 pub set-first-zero-spec : {M : Type 1} → statement M
 set-first-zero-spec =
-    tie.close (tie.spec first-zero-requires power-requires add-t6 returns returns-2)
+    tie.close
+    (tie.spec
+    -- `return Applied {`
+    (λ c κs. search needs) (λ c κs. search needs) add-t6 returns
+    -- otherwise
+    returns-2)

@@ -11,8 +11,7 @@ mul-result c = omega (arith, mul-le-mul (c .pre .0) (c .pre .1 .0))
 mul-result-2 : tie.Need-mul-result-2
 mul-result-2 c = omega (arith, mul-le-mul (mul-le-mul (c .pre .0) (c .pre .1 .0)) (c .pre .1 .1))
 
-returns : tie.Need-returns
-returns c = search needs
-
 pub product-spec : {M : Type 1} → statement M
-product-spec = tie.close (tie.spec mul-result mul-result-2 returns)
+product-spec = tie.close
+    (tie.spec
+    mul-result mul-result-2 (λ c. search needs))

@@ -27,15 +27,9 @@ g-passes c = sym (c .before .is-within2 .ensures) ∙ not-false _ (c .if3 .left)
 b-passes : (c : tie.Else4) → within 1 8 (c .before .before .before .before .before .before .before .before .args .b) ≡ true
 b-passes c = sym (c .before .is-within3 .ensures) ∙ not-false _ (c .if4 .left)
 
-is-within-requires : tie.Need-is-within-requires
-is-within-requires c κs = search needs
-
 returns : tie.Need-returns
 unfolding setupAnswer
 returns c = rw (sym (c .before .is-within .ensures) ∙ not-true _ (c .if1 .taken))
-
-is-leaves-requires : tie.Need-is-leaves-requires
-is-leaves-requires c κs = search needs
 
 returns-2 : tie.Need-returns-2
 unfolding setupAnswer
@@ -43,18 +37,12 @@ returns-2 c =
     let past-n = c .before .before in
     rw (n-passes past-n, sym (c .before .is-leaves .ensures) ∙ not-true _ (c .if2 .taken))
 
-is-within-requires-2 : tie.Need-is-within-requires-2
-is-within-requires-2 c κs = search needs
-
 returns-3 : tie.Need-returns-3
 unfolding setupAnswer
 returns-3 c =
     let past-l = c .before .before in
     let past-n = past-l .before .before in
     rw (n-passes past-n, l-passes past-l, sym (c .before .is-within2 .ensures) ∙ not-true _ (c .if3 .taken))
-
-is-within-requires-3 : tie.Need-is-within-requires-3
-is-within-requires-3 c κs = search needs
 
 returns-4 : tie.Need-returns-4
 unfolding setupAnswer
@@ -91,14 +79,15 @@ pub setup-answer-spec : {M : Type 1} → statement M
 setup-answer-spec =
     tie.close
     (tie.spec
-    is-within-requires
-    returns
-    is-leaves-requires
-    returns-2
-    is-within-requires-2
-    returns-3
-    is-within-requires-3
-    returns-4
-    product-requires
-    returns-5
+    -- `!is_within(1, 64, n)`
+    (λ c κs. search needs) returns
+    -- `!is_leaves(l)`
+    (λ c κs. search needs) returns-2
+    -- `!is_within(1, 8, g)`
+    (λ c κs. search needs) returns-3
+    -- `!is_within(1, 8, b)`
+    (λ c κs. search needs) returns-4
+    -- `product(l, g, b) > 64`
+    product-requires returns-5
+    -- otherwise
     returns-6)

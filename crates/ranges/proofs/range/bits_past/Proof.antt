@@ -24,18 +24,6 @@ loop-holds : tie.Need-loop-holds Inv-loop μ-loop
 unfolding allBelow
 loop-holds c = (search needs, refl)
 
-cast-j : tie.Need-cast-j Inv-loop μ-loop
-cast-j c = search needs
-
-element-copy-out-x : tie.Need-element-copy-out-x Inv-loop μ-loop
-element-copy-out-x c = search needs
-
-add-i : tie.Need-add-i Inv-loop μ-loop
-add-i c = search needs
-
-loop-less : tie.Need-loop-less Inv-loop μ-loop
-loop-less c = search needs
-
 loop-again : tie.Need-loop-again Inv-loop μ-loop
 loop-again c =
     let joined = c .before in
@@ -54,13 +42,10 @@ returns c = rw (le-antisymm (c .before .loop .inv .0) (c .loop-test .left)) at (
 pub bits-past-spec : {M : Type 1} → statement M
 bits-past-spec =
     tie.close
-    (tie.spec
-    Inv-loop
-    μ-loop
+    (tie.spec Inv-loop μ-loop
+    -- before the loop
     loop-holds
-    cast-j
-    element-copy-out-x
-    add-i
-    loop-less
-    loop-again
+    -- a turn
+    (λ c. search needs) (λ c. search needs) (λ c. search needs) (λ c. search needs) loop-again
+    -- after the loop
     returns)

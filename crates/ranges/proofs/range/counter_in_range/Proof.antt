@@ -4,12 +4,6 @@ use borrow.Author.Tests.{ne-eqb, lt-leb, le-leb}
 use Rattle.ranges.proofs.range.counter_in_range.Statement.{statement}
 use Rattle.ranges.proofs.range.counter_in_range.Tie as tie
 
-returns : tie.Need-returns
-returns c = rw (c .if1 .taken)
-
-fresh-counter-requires : tie.Need-fresh-counter-requires
-fresh-counter-requires c κs = search needs
-
 returns-2 : tie.Need-returns-2
 returns-2 c =
     simp (ne-eqb _ _ (c .before .before .if1 .left), lt-leb _ _ (rw (c .before .fresh-counter .ensures) at (c .if2 .taken)))
@@ -19,4 +13,11 @@ returns-3 c =
     simp (ne-eqb _ _ (c .before .before .if1 .left), le-leb _ _ (rw (c .before .fresh-counter .ensures) at (c .if2 .left)))
 
 pub counter-in-range-spec : {M : Type 1} → statement M
-counter-in-range-spec = tie.close (tie.spec returns fresh-counter-requires returns-2 returns-3)
+counter-in-range-spec = tie.close
+    (tie.spec
+    -- `v == 0`
+    (λ c. rw (c .if1 .taken))
+    -- `c > fresh_counter(k, v)`
+    (λ c κs. search needs) returns-2
+    -- otherwise
+    returns-3)

@@ -35,26 +35,11 @@ abbrev μ-loop : tie.MeasureT-loop
 loop-holds : tie.Need-loop-holds Inv-loop μ-loop
 loop-holds c = (search needs, λ u h m. absurd (not-suc-le-zero h))
 
-cast-i : tie.Need-cast-i Inv-loop μ-loop
-cast-i c = search needs
-
-element-copy-out-counter-in-range : tie.Need-element-copy-out-counter-in-range Inv-loop μ-loop
-element-copy-out-counter-in-range c = search needs
-
-counter-in-range-requires : tie.Need-counter-in-range-requires Inv-loop μ-loop
-counter-in-range-requires c κs = search needs
-
 returns : tie.Need-returns Inv-loop μ-loop
 returns c =
     let a = c .before .before .before .before .before .before .args in
     let fails = sym (c .before .counter-in-range .ensures) ∙ not-true _ (c .if2 .taken) in
     sym (all-fails (a .l) (at (a .k) (a .counters .now)) (c .before .before .before .before .before .loop .v) (c .before .before .before .if1 .taken) fails)
-
-add-v : tie.Need-add-v Inv-loop μ-loop
-add-v c = search needs
-
-loop-less : tie.Need-loop-less Inv-loop μ-loop
-loop-less c = search needs
 
 loop-again : tie.Need-loop-again Inv-loop μ-loop
 loop-again c = (
@@ -73,15 +58,12 @@ returns-2 c =
 pub counters-in-range-spec : {M : Type 1} → statement M
 counters-in-range-spec =
     tie.close
-    (tie.spec
-    Inv-loop
-    μ-loop
+    (tie.spec Inv-loop μ-loop
+    -- before the loop
     loop-holds
-    cast-i
-    element-copy-out-counter-in-range
-    counter-in-range-requires
-    returns
-    add-v
-    loop-less
-    loop-again
+    -- `!counter_in_range(counters[i], k, v)`
+    (λ c. search needs) (λ c. search needs) (λ c κs. search needs) returns
+    -- a turn
+    (λ c. search needs) (λ c. search needs) loop-again
+    -- otherwise
     returns-2)

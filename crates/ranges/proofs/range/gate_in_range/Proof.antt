@@ -6,9 +6,6 @@ use Rattle.ranges.proofs.GateWord.{too-low, too-high, between}
 use Rattle.ranges.proofs.range.gate_in_range.Statement.{statement}
 use Rattle.ranges.proofs.range.gate_in_range.Tie as tie
 
-cast-top : tie.Need-cast-top
-cast-top c = search needs
-
 returns : tie.Need-returns
 returns c = too-low (c .before .args .k) (c .before .args .a) (rw (toZ-ofZ (c .before .fits .a)) at (c .if1 .taken))
 
@@ -25,4 +22,11 @@ returns-3 c =
     between (a .k) (a .a) (rw e at (c .before .if1 .left)) (rw (as-signed (a .k) (c .before .before .pre), e) at (c .if2 .left))
 
 pub gate-in-range-spec : {M : Type 1} → statement M
-gate-in-range-spec = tie.close (tie.spec cast-top returns returns-2 returns-3)
+gate-in-range-spec = tie.close
+    (tie.spec
+    -- `a < -64`
+    (λ c. search needs) returns
+    -- `a > top`
+    returns-2
+    -- otherwise
+    returns-3)

@@ -15,18 +15,6 @@ Inv-loop xs e end top₀ i₀ top i = (i ≤ e) × Greatest xs i top
 abbrev μ-loop : tie.MeasureT-loop
 μ-loop xs e end top₀ i₀ top i = end - i
 
-loop-holds : tie.Need-loop-holds Inv-loop μ-loop
-loop-holds c = (search needs, of-none)
-
-element-copy-out-x : tie.Need-element-copy-out-x Inv-loop μ-loop
-element-copy-out-x c = search needs
-
-add-i : tie.Need-add-i Inv-loop μ-loop
-add-i c = search needs
-
-loop-less : tie.Need-loop-less Inv-loop μ-loop
-loop-less c = search needs
-
 loop-again : tie.Need-loop-again Inv-loop μ-loop
 loop-again c =
     let greatest = c .before .before .before .loop .inv .1 in (
@@ -43,4 +31,10 @@ returns c = rw (le-antisymm (c .before .loop .inv .0) (c .loop-test .left)) at (
 pub greatest-spec : {M : Type 1} → statement M
 greatest-spec =
     tie.close
-    (tie.spec Inv-loop μ-loop loop-holds element-copy-out-x add-i loop-less loop-again returns)
+    (tie.spec Inv-loop μ-loop
+    -- before the loop
+    (λ c. (search needs, of-none))
+    -- a turn
+    (λ c. search needs) (λ c. search needs) (λ c. search needs) loop-again
+    -- after the loop
+    returns)

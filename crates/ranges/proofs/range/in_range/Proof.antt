@@ -43,9 +43,6 @@ abbrev μ-loop : tie.MeasureT-loop
 gate-signed : (c : tie.Start Inv-loop μ-loop) → toZ w8 (ofZ w8 (c .args .t1 .gate)) ≡ c .args .t1 .gate
 gate-signed c = toZ-ofZ {w = w8} {z = c .args .t1 .gate} (search needs)
 
-setup-answer-requires : tie.Need-setup-answer-requires Inv-loop μ-loop
-setup-answer-requires c κs = search needs
-
 returns : tie.Need-returns Inv-loop μ-loop
 unfolding inRange setupInRange
 returns c =
@@ -115,9 +112,6 @@ returns-6 c =
     let s = c .before .before .before .before .before .before .before .before .before .before .before .before .before .before .before .before .before .before .before .args .t1 in
     sym (one-fails (rangeTests s) 5 (sym (c .before .words-in-range .ensures) ∙ not-true _ (c .if6 .taken)))
 
-cast-end : tie.Need-cast-end Inv-loop μ-loop
-cast-end c = search needs
-
 loop-holds : tie.Need-loop-holds Inv-loop μ-loop
 unfolding inRange setupInRange allBelow
 loop-holds c =
@@ -150,20 +144,11 @@ mul-process-in-range c = search (needs, c .before .loop .inv)
 element-copy-out-process-in-range : tie.Need-element-copy-out-process-in-range Inv-loop μ-loop
 element-copy-out-process-in-range c = search (needs, c .before .loop .inv)
 
-process-in-range-requires : tie.Need-process-in-range-requires Inv-loop μ-loop
-process-in-range-requires c κs = c .before .before .loop .inv .l16
-
 returns-7 : tie.Need-returns-7 Inv-loop μ-loop
 returns-7 c =
     let going = c .before .before .before .before .loop .inv in
     let fails = sym (c .before .process-in-range .ensures) ∙ not-true _ (c .if7 .taken) in
     sym (sym (going .rest) ∙ all-fails _ _ _ (c .before .before .before .loop-test .taken) fails)
-
-add-i : tie.Need-add-i Inv-loop μ-loop
-add-i c = search needs
-
-loop-less : tie.Need-loop-less Inv-loop μ-loop
-loop-less c = search needs
 
 loop-again : tie.Need-loop-again Inv-loop μ-loop
 loop-again c =
@@ -185,29 +170,24 @@ returns-8 c =
 pub in-range-spec : {M : Type 1} → statement M
 in-range-spec =
     tie.close
-    (tie.spec
-    Inv-loop
-    μ-loop
-    setup-answer-requires
-    returns
-    names-of-requires
-    gate-in-range-requires
-    returns-2
+    (tie.spec Inv-loop μ-loop
+    -- `limits::setup_answer(n, l, g, b) != 0`
+    (λ c κs. search needs) returns
+    -- `!gate_in_range(k, s.gate)`
+    names-of-requires gate-in-range-requires returns-2
+    -- `s.queued > 64`
     returns-3
-    queue-in-range-requires
-    returns-4
-    counters-in-range-requires
-    returns-5
-    mul-words-in-range
-    words-in-range-requires
-    returns-6
-    cast-end
-    loop-holds
-    mul-process-in-range
-    element-copy-out-process-in-range
-    process-in-range-requires
-    returns-7
-    add-i
-    loop-less
-    loop-again
+    -- `!queue_in_range(&s.queue, s.queued, n)`
+    queue-in-range-requires returns-4
+    -- `!counters_in_range(&s.counters, l, k)`
+    counters-in-range-requires returns-5
+    -- `!words_in_range(&s.words, l * g, b)`
+    mul-words-in-range words-in-range-requires returns-6
+    -- up to the loop
+    (λ c. search needs) loop-holds
+    -- `!process_in_range(s.process[i], l, g, k)`
+    mul-process-in-range element-copy-out-process-in-range (λ c κs. c .before .before .loop .inv .l16) returns-7
+    -- a turn
+    (λ c. search needs) (λ c. search needs) loop-again
+    -- otherwise
     returns-8)

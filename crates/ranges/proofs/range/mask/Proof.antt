@@ -5,11 +5,7 @@ use Rattle.ranges.proofs.Masks.{mask-is}
 use Rattle.ranges.proofs.range.mask.Statement.{statement}
 use Rattle.ranges.proofs.range.mask.Tie as tie
 
-array-read-result : tie.Need-array-read-result
-array-read-result c = search needs
-
-returns : tie.Need-returns
-returns c = mask-is (c .args .b) (omega arith)
-
 pub mask-spec : {M : Type 1} → statement M
-mask-spec = tie.close (tie.spec array-read-result returns)
+mask-spec = tie.close
+    (tie.spec
+    (λ c. search needs) (λ c. mask-is (c .args .b) (omega arith)))

@@ -7,17 +7,11 @@ use Rattle.ranges.proofs.Bounds.{entry-out, past-out, queue-in}
 use Rattle.ranges.proofs.range.queue_in_range.Statement.{statement}
 use Rattle.ranges.proofs.range.queue_in_range.Tie as tie
 
-greatest-requires : tie.Need-greatest-requires
-greatest-requires c κs = search needs
-
 returns : tie.Need-returns
 returns c =
     let start = c .before .before in
     let a = start .args in
     sym (entry-out (a .queue .now) (a .m) (a .n) (start .pre .0) (start .pre .1) (c .before .greatest .ensures) (c .if1 .taken))
-
-bits-past-requires : tie.Need-bits-past-requires
-bits-past-requires c κs = search needs
 
 returns-2 : tie.Need-returns-2
 returns-2 c =
@@ -34,4 +28,11 @@ returns-3 c =
 
 pub queue-in-range-spec : {M : Type 1} → statement M
 queue-in-range-spec =
-    tie.close (tie.spec greatest-requires returns bits-past-requires returns-2 returns-3)
+    tie.close
+    (tie.spec
+    -- `greatest(queue, m) >= n`
+    (λ c κs. search needs) returns
+    -- `bits_past(queue, m) != 0`
+    (λ c κs. search needs) returns-2
+    -- otherwise
+    returns-3)

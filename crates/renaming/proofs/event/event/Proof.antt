@@ -8,24 +8,12 @@ use borrow.Author.Needs.{needs}
 use Rattle.renaming.proofs.event.event.Statement.{statement}
 use Rattle.renaming.proofs.event.event.Tie as tie
 
-in-range-requires : tie.Need-in-range-requires
-in-range-requires c κs = search needs
-
 returns : tie.Need-returns
 unfolding event
 returns c = rw (sym (c .before .in-range .ensures) ∙ not-true _ (c .if1 .taken))
 
-slice-aggregate-run-checked : tie.Need-slice-aggregate-run-checked
-slice-aggregate-run-checked c = search needs
-
-slice-aggregate-run-checked-2 : tie.Need-slice-aggregate-run-checked-2
-slice-aggregate-run-checked-2 c = search needs
-
 run-checked-requires : tie.Need-run-checked-requires
 run-checked-requires c κs = (sym (c .before .before .before .in-range .ensures) ∙ not-false _ (c .before .before .if1 .left), search needs)
-
-array-read-t15 : tie.Need-array-read-t15
-array-read-t15 c = search needs
 
 returns-2 : tie.Need-returns-2
 returns-2 c = one-event _ _ _ (replicate 4 0) (c .before .run-checked .ensures .0) (c .before .run-checked .ensures .1)
@@ -34,10 +22,7 @@ pub event-spec : {M : Type 1} → statement M
 event-spec =
     tie.close
     (tie.spec
-    in-range-requires
-    returns
-    slice-aggregate-run-checked
-    slice-aggregate-run-checked-2
-    run-checked-requires
-    array-read-t15
-    returns-2)
+    -- `return Done {`
+    (λ c κs. search needs) returns
+    -- otherwise
+    (λ c. search needs) (λ c. search needs) run-checked-requires (λ c. search needs) returns-2)

@@ -12,15 +12,9 @@ returns : tie.Need-returns
 unfolding run runJournal
 returns c = search tests
 
-mul-if2 : tie.Need-mul-if2
-mul-if2 c = search needs
-
 returns-2 : tie.Need-returns-2
 unfolding run runJournal
 returns-2 c = search tests
-
-in-range-requires : tie.Need-in-range-requires
-in-range-requires c κs = search needs
 
 returns-3 : tie.Need-returns-3
 unfolding run runJournal
@@ -28,9 +22,6 @@ returns-3 c = search (tests, sym (c .before .in-range .ensures) ∙ not-true _ (
 
 run-checked-requires : tie.Need-run-checked-requires
 run-checked-requires c κs = (sym (c .before .before .in-range .ensures) ∙ not-false _ (c .before .if3 .left), (c .before .before .before .before .if1 .left, omega (arith, c .before .before .before .before .if1 .left, c .before .before .before .if2 .left)))
-
-same-length : tie.Need-same-length
-same-length c = search needs
 
 returns-4 : tie.Need-returns-4
 unfolding run runJournal
@@ -40,11 +31,11 @@ pub run-spec : {M : Type 1} → statement M
 run-spec =
     tie.close
     (tie.spec
+    -- `return Done {`
     returns
-    mul-if2
-    returns-2
-    in-range-requires
-    returns-3
-    run-checked-requires
-    same-length
-    returns-4)
+    -- `return Done {`
+    (λ c. search needs) returns-2
+    -- `return Done {`
+    (λ c κs. search needs) returns-3
+    -- otherwise
+    run-checked-requires (λ c. search needs) returns-4)

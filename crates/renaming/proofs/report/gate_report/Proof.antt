@@ -13,9 +13,6 @@ use borrow.Author.Needs.{needs}
 use Rattle.renaming.proofs.report.gate_report.Statement.{statement}
 use Rattle.renaming.proofs.report.gate_report.Tie as tie
 
-in-range-requires : tie.Need-in-range-requires
-in-range-requires c κs = search needs
-
 returns : tie.Need-returns
 unfolding gateReport
 returns c = rw (sym (c .before .in-range .ensures) ∙ not-true _ (c .if1 .taken))
@@ -25,12 +22,6 @@ negated-requires c κs =
     let s = c .before .before .before .args .state in
     let k = ranges-of s (sym (c .before .before .in-range .ensures) ∙ not-false _ (c .before .if1 .left)) in
     rw (toZ-ofZ {w = w8} {z = s .gate} (search needs)) (gate-64 (namesOf s) (s .gate) (k .gate) (k .limits .k64))
-
-positive-part-requires : tie.Need-positive-part-requires
-positive-part-requires c κs = search needs
-
-positive-part-requires-2 : tie.Need-positive-part-requires-2
-positive-part-requires-2 c κs = search needs
 
 returns-2 : tie.Need-returns-2
 unfolding gateReport
@@ -46,9 +37,7 @@ pub gate-report-spec : {M : Type 1} → statement M
 gate-report-spec =
     tie.close
     (tie.spec
-    in-range-requires
-    returns
-    negated-requires
-    positive-part-requires
-    positive-part-requires-2
-    returns-2)
+    -- `return Report {`
+    (λ c κs. search needs) returns
+    -- otherwise
+    negated-requires (λ c κs. search needs) (λ c κs. search needs) returns-2)

@@ -105,27 +105,6 @@ loop-holds c = (
   },
 )
 
-shared-slice-read-kind : tie.Need-shared-slice-read-kind Inv-loop μ-loop
-shared-slice-read-kind c = omega arith
-
-add-p : tie.Need-add-p Inv-loop μ-loop
-add-p c = omega arith
-
-shared-slice-read-p : tie.Need-shared-slice-read-p Inv-loop μ-loop
-shared-slice-read-p c = omega arith
-
-mul-o : tie.Need-mul-o Inv-loop μ-loop
-mul-o c = omega arith
-
-add-at : tie.Need-add-at Inv-loop μ-loop
-add-at c = omega arith
-
-put4-requires : tie.Need-put4-requires Inv-loop μ-loop
-put4-requires c κs = omega arith
-
-loop-less : tie.Need-loop-less Inv-loop μ-loop
-loop-less c = omega arith
-
 loop-again : tie.Need-loop-again Inv-loop μ-loop
 loop-again c =
     let at = c .before .before .before .before .before .before .before .before .loop in
@@ -133,12 +112,6 @@ loop-again c =
     let s = at .t in
     let k = c .before .before .before .before .if1 .taken in
     (next (i .0) (omega arith) (omega arith) (ap (λ (d : Done). d .state) (kind-done s _ _ (i .1) k)) (kind-wrote s _ _ (i .1) k) (c .before .before .put4 .ensures), i .1)
-
-put4-requires-2 : tie.Need-put4-requires-2 Inv-loop μ-loop
-put4-requires-2 c κs = omega arith
-
-loop-less-2 : tie.Need-loop-less-2 Inv-loop μ-loop
-loop-less-2 c = omega arith
 
 loop-again-2 : tie.Need-loop-again-2 Inv-loop μ-loop
 loop-again-2 c =
@@ -149,38 +122,14 @@ loop-again-2 c =
     let m = c .before .before .before .before .if2 .taken in
     (next (i .0) (omega arith) (omega arith) (ap (λ (d : Done). d .state) (stranger-done s _ _ (i .1) k m)) (stranger-wrote s _ _ (i .1) k m) (c .before .before .put42 .ensures), i .1)
 
-cast-i : tie.Need-cast-i Inv-loop μ-loop
-cast-i c = search needs
-
-mul-h : tie.Need-mul-h Inv-loop μ-loop
-mul-h c = omega arith
-
 element-copy-out-h : tie.Need-element-copy-out-h Inv-loop μ-loop
 element-copy-out-h c = omega (arith, c .before .before .before .before .before .loop .inv .1 .ranges .limits .n64)
 
 place-of-requires : tie.Need-place-of-requires Inv-loop μ-loop
 place-of-requires c κs = setting (c .before .before .before .before .before .before .loop .inv .1) _ (c .before .if2 .left)
 
-enum-known-y : tie.Need-enum-known-y Inv-loop μ-loop
-enum-known-y c = search needs
-
-enum-told : tie.Need-enum-told Inv-loop μ-loop
-enum-told c = search needs
-
-enter-requires : tie.Need-enter-requires Inv-loop μ-loop
-enter-requires c κs = search needs
-
-enum-told-2 : tie.Need-enum-told-2 Inv-loop μ-loop
-enum-told-2 c = search needs
-
 wait-requires : tie.Need-wait-requires Inv-loop μ-loop
 wait-requires c κs = c .before .before .before .before .before .before .before .before .before .before .before .loop .inv .1 .ranges .queue .size
-
-enum-known-v : tie.Need-enum-known-v Inv-loop μ-loop
-enum-known-v c = search needs
-
-cast-j : tie.Need-cast-j Inv-loop μ-loop
-cast-j c = search needs
 
 element-copy-out-descend : tie.Need-element-copy-out-descend Inv-loop μ-loop
 element-copy-out-descend c = used (c .before .before .before) (c .before .v .given .1)
@@ -190,12 +139,6 @@ descend-requires c κs = omega (arith, told (c .before .before .before .before) 
 
 element-write-t : tie.Need-element-write-t Inv-loop μ-loop
 element-write-t c = used (c .before .before .before .before .before) (c .before .before .before .v .given .1)
-
-enum-known-r : tie.Need-enum-known-r Inv-loop μ-loop
-enum-known-r c = search needs
-
-cast-j-2 : tie.Need-cast-j-2 Inv-loop μ-loop
-cast-j-2 c = search needs
 
 element-copy-out-probe : tie.Need-element-copy-out-probe Inv-loop μ-loop
 element-copy-out-probe c = word-number (c .before .before .before) _ (used (c .before .before .before) (c .before .r .given .1))
@@ -208,12 +151,6 @@ probe-requires c κs =
 element-write-t-2 : tie.Need-element-write-t-2 Inv-loop μ-loop
 element-write-t-2 c = word-number (c .before .before .before .before .before) _ (used (c .before .before .before .before .before) (c .before .before .before .r .given .1))
 
-enum-known-r-2 : tie.Need-enum-known-r-2 Inv-loop μ-loop
-enum-known-r-2 c = search needs
-
-cast-j-3 : tie.Need-cast-j-3 Inv-loop μ-loop
-cast-j-3 c = search needs
-
 element-copy-out-clr-bit : tie.Need-element-copy-out-clr-bit Inv-loop μ-loop
 element-copy-out-clr-bit c = word-number (c .before .before .before) _ (used (c .before .before .before) (c .before .r2 .given .1) .0)
 
@@ -223,26 +160,14 @@ clr-bit-requires c κs = used (c .before .before .before .before) (c .before .be
 element-write-t-3 : tie.Need-element-write-t-3 Inv-loop μ-loop
 element-write-t-3 c = word-number (c .before .before .before .before .before) _ (used (c .before .before .before .before .before) (c .before .before .before .r2 .given .1) .0)
 
-enum-known-u : tie.Need-enum-known-u Inv-loop μ-loop
-enum-known-u c = search needs
-
-cast-j-4 : tie.Need-cast-j-4 Inv-loop μ-loop
-cast-j-4 c = search needs
-
 names-of-requires : tie.Need-names-of-requires Inv-loop μ-loop
 names-of-requires c κs = (words-64 (limits (checked (c .before .before .before))), told (c .before .before .before) .k64)
 
 element-copy-out-climb : tie.Need-element-copy-out-climb Inv-loop μ-loop
 element-copy-out-climb c = used (c .before .before .before .before) (c .before .before .u .given .1)
 
-climb-requires : tie.Need-climb-requires Inv-loop μ-loop
-climb-requires c κs = search needs
-
 element-write-t-4 : tie.Need-element-write-t-4 Inv-loop μ-loop
 element-write-t-4 c = used (c .before .before .before .before .before .before) (c .before .before .before .before .u .given .1)
-
-enum-told-3 : tie.Need-enum-told-3 Inv-loop μ-loop
-enum-told-3 c = search needs
 
 names-of-requires-2 : tie.Need-names-of-requires-2 Inv-loop μ-loop
 names-of-requires-2 c κs = (words-64 (limits (checked (c .before .before))), told (c .before .before) .k64)
@@ -250,17 +175,8 @@ names-of-requires-2 c κs = (words-64 (limits (checked (c .before .before))), to
 leave-requires : tie.Need-leave-requires Inv-loop μ-loop
 leave-requires c κs = (omega (arith, c .before .before .names-of2 .ensures, told (c .before .before .before .before .before) .k64), checked (c .before .before .before .before .before) .sized .queue)
 
-mul-x : tie.Need-mul-x Inv-loop μ-loop
-mul-x c = omega arith
-
 element-set-from-x : tie.Need-element-set-from-x Inv-loop μ-loop
 element-set-from-x c = omega (arith, c .before .before .before .before .before .before .before .before .loop .inv .1 .ranges .limits .n64)
-
-log-requires : tie.Need-log-requires Inv-loop μ-loop
-log-requires c κs = omega arith
-
-loop-less-3 : tie.Need-loop-less-3 Inv-loop μ-loop
-loop-less-3 c = omega arith
 
 loop-again-3 : tie.Need-loop-again-3 Inv-loop μ-loop
 loop-again-3 c =
@@ -271,67 +187,28 @@ loop-again-3 c =
     let d = ap (λ (d : Done). d .state) m in
     (next (i .0) (omega arith) (omega arith) d (wrote (here a) (kind a) (process a) (checked a) (known a) (member a) (n .t) (n .x) (n .answer) m) (c .before .before .log .ensures), subst Checked d (event-checked (i .1) _ _))
 
-same-length : tie.Need-same-length Inv-loop μ-loop
-same-length c = c .before .loop .inv .0 .same
-
 returns : tie.Need-returns Inv-loop μ-loop
 returns c = finish (c .before .loop .inv .0) (c .loop-test .left)
 
 pub run-checked-spec : {M : Type 1} → statement M
 run-checked-spec =
     tie.close
-    (tie.spec
-    Inv-loop
-    μ-loop
+    (tie.spec Inv-loop μ-loop
+    -- before the loop
     loop-holds
-    shared-slice-read-kind
-    add-p
-    shared-slice-read-p
-    mul-o
-    add-at
-    put4-requires
-    loop-less
-    loop-again
-    put4-requires-2
-    loop-less-2
-    loop-again-2
-    cast-i
-    mul-h
-    element-copy-out-h
-    place-of-requires
-    enum-known-y
-    enum-told
-    enter-requires
-    enum-told-2
-    wait-requires
-    enum-known-v
-    cast-j
-    element-copy-out-descend
-    descend-requires
-    element-write-t
-    enum-known-r
-    cast-j-2
-    element-copy-out-probe
-    probe-requires
-    element-write-t-2
-    enum-known-r-2
-    cast-j-3
-    element-copy-out-clr-bit
-    clr-bit-requires
-    element-write-t-3
-    enum-known-u
-    cast-j-4
-    names-of-requires
-    element-copy-out-climb
-    climb-requires
-    element-write-t-4
-    enum-told-3
-    names-of-requires-2
-    leave-requires
-    mul-x
-    element-set-from-x
-    log-requires
-    loop-less-3
-    loop-again-3
-    same-length
-    returns)
+    -- a turn
+    (λ c. omega arith) (λ c. omega arith) (λ c. omega arith) (λ c. omega arith) (λ c. omega arith)
+    (λ c κs. omega arith) (λ c. omega arith) loop-again
+    -- a turn
+    (λ c κs. omega arith) (λ c. omega arith) loop-again-2
+    -- a turn
+    (λ c. search needs) (λ c. omega arith) element-copy-out-h place-of-requires (λ c. search needs)
+    (λ c. search needs) (λ c κs. search needs) (λ c. search needs) wait-requires (λ c. search needs)
+    (λ c. search needs) element-copy-out-descend descend-requires element-write-t (λ c. search needs)
+    (λ c. search needs) element-copy-out-probe probe-requires element-write-t-2 (λ c. search needs)
+    (λ c. search needs) element-copy-out-clr-bit clr-bit-requires element-write-t-3 (λ c. search needs)
+    (λ c. search needs) names-of-requires element-copy-out-climb (λ c κs. search needs) element-write-t-4
+    (λ c. search needs) names-of-requires-2 leave-requires (λ c. omega arith) element-set-from-x (λ c κs. omega arith)
+    (λ c. omega arith) loop-again-3
+    -- after the loop
+    (λ c. c .before .loop .inv .0 .same) returns)

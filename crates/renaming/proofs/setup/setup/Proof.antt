@@ -6,12 +6,6 @@ use borrow.Author.Needs.{needs}
 use Rattle.renaming.proofs.setup.setup.Statement.{statement}
 use Rattle.renaming.proofs.setup.setup.Tie as tie
 
-setup-answer-requires : tie.Need-setup-answer-requires
-setup-answer-requires c κs = search needs
-
-blank-state-requires : tie.Need-blank-state-requires
-blank-state-requires c κs = search needs
-
 returns : tie.Need-returns
 returns c =
     let a = c .before .before .before .args in
@@ -23,9 +17,6 @@ names-of-requires c κs =
     let k = accepted (c .before .setup-answer .ensures) (c .if1 .left) in
     (words-64 k, k .k64)
 
-fresh-state-requires : tie.Need-fresh-state-requires
-fresh-state-requires c κs = search needs
-
 returns-2 : tie.Need-returns-2
 returns-2 c =
     let a = c .before .before .before .before .args in
@@ -36,9 +27,7 @@ pub setup-spec : {M : Type 1} → statement M
 setup-spec =
     tie.close
     (tie.spec
-    setup-answer-requires
-    blank-state-requires
-    returns
-    names-of-requires
-    fresh-state-requires
-    returns-2)
+    -- `return Done {`
+    (λ c κs. search needs) (λ c κs. search needs) returns
+    -- otherwise
+    names-of-requires (λ c κs. search needs) returns-2)

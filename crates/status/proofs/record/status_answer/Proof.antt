@@ -6,15 +6,9 @@ use Rattle.machine.specs.Reports.{statusAnswer}
 use Rattle.status.proofs.record.status_answer.Statement.{statement}
 use Rattle.status.proofs.record.status_answer.Tie as tie
 
-in-range-requires : tie.Need-in-range-requires
-in-range-requires c κs = search needs
-
 returns : tie.Need-returns
 unfolding statusAnswer
 returns c = λ records long. rw (sym (c .before .in-range .ensures) ∙ not-true _ (c .if1 .taken))
-
-cast-n : tie.Need-cast-n
-cast-n c = search needs
 
 returns-2 : tie.Need-returns-2
 unfolding statusAnswer
@@ -27,4 +21,11 @@ returns-3 c = λ records long.
     rw (sym (c .before .before .before .in-range .ensures) ∙ not-false _ (c .before .before .if1 .left), long, le-leb _ _ (c .if2 .left))
 
 pub status-answer-spec : {M : Type 1} → statement M
-status-answer-spec = tie.close (tie.spec in-range-requires returns cast-n returns-2 returns-3)
+status-answer-spec = tie.close
+    (tie.spec
+    -- `!range::in_range(state)`
+    (λ c κs. search needs) returns
+    -- `len < n`
+    (λ c. search needs) returns-2
+    -- otherwise
+    returns-3)

@@ -45,151 +45,25 @@ two-room c = room _ _ _ _ (two c) (c .before .before .before .pre)
 three-room : (c : tie.Else3) → let a = c .before .before .before .args in a .at + 4 ≤ length (a .out .now)
 three-room c = room _ _ _ _ (three c) (c .before .before .before .pre)
 
-slice-write-out : tie.Need-slice-write-out
-slice-write-out c = omega (arith, none-room c)
-
-add-out : tie.Need-add-out
-add-out c = search needs
-
-slice-write-out-2 : tie.Need-slice-write-out-2
-slice-write-out-2 c = simp length-set (omega (arith, none-room c))
-
-add-result : tie.Need-add-result
-add-result c = search needs
-
-same-length : tie.Need-same-length
-same-length c = search needs
-
-returns : tie.Need-returns
-returns c = rw (none c) (refl, simp add-one)
-
-add-out-2 : tie.Need-add-out-2
-add-out-2 c = search needs
-
-slice-write-out-3 : tie.Need-slice-write-out-3
-slice-write-out-3 c = omega (arith, one-room c)
-
-add-out-3 : tie.Need-add-out-3
-add-out-3 c = search needs
-
-slice-write-out-4 : tie.Need-slice-write-out-4
-slice-write-out-4 c = simp length-set (omega (arith, one-room c))
-
-add-result-2 : tie.Need-add-result-2
-add-result-2 c = search needs
-
-same-length-2 : tie.Need-same-length-2
-same-length-2 c = search needs
-
-returns-2 : tie.Need-returns-2
-returns-2 c = rw (one c) (refl, simp add-one)
-
-add-out-4 : tie.Need-add-out-4
-add-out-4 c = search needs
-
-slice-write-out-5 : tie.Need-slice-write-out-5
-slice-write-out-5 c = omega (arith, two-room c)
-
-add-out-5 : tie.Need-add-out-5
-add-out-5 c = search needs
-
-add-out-6 : tie.Need-add-out-6
-add-out-6 c = search needs
-
-slice-write-out-6 : tie.Need-slice-write-out-6
-slice-write-out-6 c = simp length-set (omega (arith, two-room c))
-
-add-out-7 : tie.Need-add-out-7
-add-out-7 c = search needs
-
-slice-write-out-7 : tie.Need-slice-write-out-7
-slice-write-out-7 c = simp length-set (omega (arith, two-room c))
-
-add-result-3 : tie.Need-add-result-3
-add-result-3 c = search needs
-
-same-length-3 : tie.Need-same-length-3
-same-length-3 c = search needs
-
-returns-3 : tie.Need-returns-3
-returns-3 c = rw (two c) (refl, simp (add-one, add-two))
-
-add-out-8 : tie.Need-add-out-8
-add-out-8 c = search needs
-
-slice-write-out-8 : tie.Need-slice-write-out-8
-slice-write-out-8 c = omega (arith, three-room c)
-
-add-out-9 : tie.Need-add-out-9
-add-out-9 c = search needs
-
-add-out-10 : tie.Need-add-out-10
-add-out-10 c = search needs
-
-slice-write-out-9 : tie.Need-slice-write-out-9
-slice-write-out-9 c = simp length-set (omega (arith, three-room c))
-
-add-out-11 : tie.Need-add-out-11
-add-out-11 c = search needs
-
-add-out-12 : tie.Need-add-out-12
-add-out-12 c = search needs
-
-slice-write-out-10 : tie.Need-slice-write-out-10
-slice-write-out-10 c = simp length-set (omega (arith, three-room c))
-
-add-out-13 : tie.Need-add-out-13
-add-out-13 c = search needs
-
-slice-write-out-11 : tie.Need-slice-write-out-11
-slice-write-out-11 c = simp length-set (omega (arith, three-room c))
-
-add-result-4 : tie.Need-add-result-4
-add-result-4 c = search needs
-
-same-length-4 : tie.Need-same-length-4
-same-length-4 c = search needs
-
-returns-4 : tie.Need-returns-4
-returns-4 c = rw (three c) (refl, simp (add-one, add-two, add-three))
-
 pub put-figure-spec : {M : Type 1} → statement M
 put-figure-spec =
     tie.close
     (tie.spec
-    slice-write-out
-    add-out
-    slice-write-out-2
-    add-result
-    same-length
-    returns
-    add-out-2
-    slice-write-out-3
-    add-out-3
-    slice-write-out-4
-    add-result-2
-    same-length-2
-    returns-2
-    add-out-4
-    slice-write-out-5
-    add-out-5
-    add-out-6
-    slice-write-out-6
-    add-out-7
-    slice-write-out-7
-    add-result-3
-    same-length-3
-    returns-3
-    add-out-8
-    slice-write-out-8
-    add-out-9
-    add-out-10
-    slice-write-out-9
-    add-out-11
-    add-out-12
-    slice-write-out-10
-    add-out-13
-    slice-write-out-11
-    add-result-4
-    same-length-4
-    returns-4)
+    -- `x == 255`
+    (λ c. omega (arith, none-room c)) (λ c. search needs) (λ c. simp length-set (omega (arith, none-room c)))
+    (λ c. search needs) (λ c. search needs) (λ c. rw (none c) (refl, simp add-one))
+    -- `x < 10`
+    (λ c. search needs) (λ c. omega (arith, one-room c)) (λ c. search needs)
+    (λ c. simp length-set (omega (arith, one-room c))) (λ c. search needs) (λ c. search needs)
+    (λ c. rw (one c) (refl, simp add-one))
+    -- `x < 100`
+    (λ c. search needs) (λ c. omega (arith, two-room c)) (λ c. search needs) (λ c. search needs)
+    (λ c. simp length-set (omega (arith, two-room c))) (λ c. search needs)
+    (λ c. simp length-set (omega (arith, two-room c))) (λ c. search needs) (λ c. search needs)
+    (λ c. rw (two c) (refl, simp (add-one, add-two)))
+    -- otherwise
+    (λ c. search needs) (λ c. omega (arith, three-room c)) (λ c. search needs) (λ c. search needs)
+    (λ c. simp length-set (omega (arith, three-room c))) (λ c. search needs) (λ c. search needs)
+    (λ c. simp length-set (omega (arith, three-room c))) (λ c. search needs)
+    (λ c. simp length-set (omega (arith, three-room c))) (λ c. search needs) (λ c. search needs)
+    (λ c. rw (three c) (refl, simp (add-one, add-two, add-three))))

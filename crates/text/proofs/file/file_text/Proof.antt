@@ -9,15 +9,6 @@ use borrow.Author.Needs.{needs}
 use Rattle.text.proofs.file.file_text.Statement.{statement}
 use Rattle.text.proofs.file.file_text.Tie as tie
 
-file-answer-requires : tie.Need-file-answer-requires
-file-answer-requires c κs = search needs
-
-refused-text-requires : tie.Need-refused-text-requires
-refused-text-requires c κs = search needs
-
-same-length : tie.Need-same-length
-same-length c = search needs
-
 refusal : (c : tie.Then1) → fileText (c .before .before .before .before .args .file .now) ≡ refused (c .before .file-answer .result)
 unfolding fileText
 refusal c =
@@ -30,24 +21,6 @@ returns c =
     let a = c .before .before .before .before .before .before .before .before .args in
     given-whole (fileText (a .file .now)) (refused (c .before .before .before .before .before .file-answer .result)) (a .out .now) (refusal (c .before .before .before .before))
     (c .before .before .refused-text .ensures)
-
-slice-aggregate-run-file : tie.Need-slice-aggregate-run-file
-slice-aggregate-run-file c = search needs
-
-run-file-requires : tie.Need-run-file-requires
-run-file-requires c κs = search needs
-
-array-share-prefix-journal : tie.Need-array-share-prefix-journal
-array-share-prefix-journal c = search needs
-
-slice-aggregate-journal-text : tie.Need-slice-aggregate-journal-text
-slice-aggregate-journal-text c = search needs
-
-journal-text-requires : tie.Need-journal-text-requires
-journal-text-requires c κs = search needs
-
-same-length-2 : tie.Need-same-length-2
-same-length-2 c = search needs
 
 accepted : (c : tie.Else1) → fileText (c .before .before .before .before .args .file .now) ≡ lines (fileJournal (c .before .before .before .before .args .file .now))
 unfolding fileText
@@ -65,14 +38,8 @@ pub file-text-spec : {M : Type 1} → statement M
 file-text-spec =
     tie.close
     (tie.spec
-    file-answer-requires
-    refused-text-requires
-    same-length
-    returns
-    slice-aggregate-run-file
-    run-file-requires
-    array-share-prefix-journal
-    slice-aggregate-journal-text
-    journal-text-requires
-    same-length-2
-    returns-2)
+    -- `a != 0`
+    (λ c κs. search needs) (λ c κs. search needs) (λ c. search needs) returns
+    -- otherwise
+    (λ c. search needs) (λ c κs. search needs) (λ c. search needs) (λ c. search needs) (λ c κs. search needs)
+    (λ c. search needs) returns-2)

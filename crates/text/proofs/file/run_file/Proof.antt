@@ -4,21 +4,6 @@ use borrow.Author.Needs.{needs}
 use Rattle.text.proofs.file.run_file.Statement.{statement}
 use Rattle.text.proofs.file.run_file.Tie as tie
 
-read-setup-requires : tie.Need-read-setup-requires
-read-setup-requires c κs = search needs
-
-read-events-requires : tie.Need-read-events-requires
-read-events-requires c κs = search needs
-
-run-requires : tie.Need-run-requires
-run-requires c κs = search needs
-
-mul-result : tie.Need-mul-result
-mul-result c = search needs
-
-same-length : tie.Need-same-length
-same-length c = search needs
-
 returns : tie.Need-returns
 returns c =
     let s = c .before .before .before .before .before .before .before .before in
@@ -34,4 +19,6 @@ returns c =
 pub run-file-spec : {M : Type 1} → statement M
 run-file-spec =
     tie.close
-    (tie.spec read-setup-requires read-events-requires run-requires mul-result same-length returns)
+    (tie.spec
+    (λ c κs. search needs) (λ c κs. search needs) (λ c κs. search needs) (λ c. search needs) (λ c. search needs)
+    returns)

@@ -18,15 +18,6 @@ Inv-loop journal room i₀ left₀ i left =
 abbrev μ-loop : tie.MeasureT-loop
 μ-loop journal room i₀ left₀ i left = length journal - i
 
-loop-holds : tie.Need-loop-holds Inv-loop μ-loop
-loop-holds c = (omega arith, refl)
-
-sub-loop : tie.Need-sub-loop Inv-loop μ-loop
-sub-loop c = c .loop .inv .0
-
-line-size-requires : tie.Need-line-size-requires Inv-loop μ-loop
-line-size-requires c κs = omega (arith, c .loop-test .taken, c .before .loop .inv .0)
-
 -- one entry more of the journal
 step : (c : tie.In-loop Inv-loop μ-loop)
     → let j = c .before .before .before .args .journal .now in
@@ -46,9 +37,6 @@ returns c =
 add-i : tie.Need-add-i Inv-loop μ-loop
 add-i c = omega (arith, c .before .before .loop-test .taken, c .before .before .before .loop .inv .0)
 
-loop-less : tie.Need-loop-less Inv-loop μ-loop
-loop-less c = omega (arith, c .before .before .loop-test .taken)
-
 loop-again : tie.Need-loop-again Inv-loop μ-loop
 loop-again c = (omega (arith, c .before .before .loop-test .taken, c .before .before .before .loop .inv .0), omega (arith, c .if1 .left, c .before .line-size .ensures, step (c .before .before), c .before .before .before .loop .inv .1))
 
@@ -61,14 +49,12 @@ returns-2 c =
 pub fits-spec : {M : Type 1} → statement M
 fits-spec =
     tie.close
-    (tie.spec
-    Inv-loop
-    μ-loop
-    loop-holds
-    sub-loop
-    line-size-requires
-    returns
-    add-i
-    loop-less
-    loop-again
+    (tie.spec Inv-loop μ-loop
+    -- before the loop
+    (λ c. (omega arith, refl))
+    -- `left < size`
+    (λ c. c .loop .inv .0) (λ c κs. omega (arith, c .loop-test .taken, c .before .loop .inv .0)) returns
+    -- a turn
+    add-i (λ c. omega (arith, c .before .before .loop-test .taken)) loop-again
+    -- otherwise
     returns-2)

@@ -10,9 +10,6 @@ use borrow.Author.Needs.{needs}
 use Rattle.text.proofs.lines.journal_text.Statement.{statement}
 use Rattle.text.proofs.lines.journal_text.Tie as tie
 
-fits-requires : tie.Need-fits-requires
-fits-requires c κs = search needs
-
 returns : tie.Need-returns
 returns c =
     let a = c .before .before .before .before .args in
@@ -20,12 +17,6 @@ returns c =
 
 fitting : (c : tie.Else1) → let a = c .before .before .before .before .args in length (lines (a .journal .now)) ≤ length (a .out .now)
 fitting c = leb-true _ _ (sym (c .before .fits2 .ensures) ∙ not-false _ (c .if1 .left))
-
-put-lines-requires : tie.Need-put-lines-requires
-put-lines-requires c κs = fitting (c .before)
-
-same-length : tie.Need-same-length
-same-length c = search needs
 
 returns-2 : tie.Need-returns-2
 returns-2 c =
@@ -35,4 +26,9 @@ returns-2 c =
 
 pub journal-text-spec : {M : Type 1} → statement M
 journal-text-spec =
-    tie.close (tie.spec fits-requires returns put-lines-requires same-length returns-2)
+    tie.close
+    (tie.spec
+    -- `return Text {`
+    (λ c κs. search needs) returns
+    -- otherwise
+    (λ c κs. fitting (c .before)) (λ c. search needs) returns-2)

@@ -75,19 +75,10 @@ room-4 : (c : tie.After-put-figure3)
     c .put-figure3 .result + length (fourth s) ≤ length (c .put-figure3 .last .0)
 room-4 c = let s = start (to-1 (to-2 c)) in put-room (put-3 c) (fourth s) (room-3 (to-2 c))
 
-shared-slice-read-put-figure : tie.Need-shared-slice-read-put-figure
-shared-slice-read-put-figure c = search needs
-
 put-figure-requires : tie.Need-put-figure-requires
 put-figure-requires c κs =
     let s = c .before .before .before .before in
     first-room (s .args .out .now) (first s) (second s ++ (third s ++ fourth s)) (s .args .at) (room s)
-
-add-put-figure : tie.Need-add-put-figure
-add-put-figure c = search needs
-
-shared-slice-read-put-figure-2 : tie.Need-shared-slice-read-put-figure-2
-shared-slice-read-put-figure-2 c = search needs
 
 put-figure-requires-2 : tie.Need-put-figure-requires-2
 put-figure-requires-2 c κs =
@@ -95,29 +86,14 @@ put-figure-requires-2 c κs =
     let s = start b in
     first-room (b .put-figure .last .0) (second s) (third s ++ fourth s) (b .put-figure .result) (room-2 b)
 
-add-put-figure-2 : tie.Need-add-put-figure-2
-add-put-figure-2 c = search needs
-
-shared-slice-read-put-figure-3 : tie.Need-shared-slice-read-put-figure-3
-shared-slice-read-put-figure-3 c = search needs
-
 put-figure-requires-3 : tie.Need-put-figure-requires-3
 put-figure-requires-3 c κs =
     let b = c .before .before .before .before in
     let s = start (to-1 b) in
     first-room (b .put-figure2 .last .0) (third s) (fourth s) (b .put-figure2 .result) (room-3 b)
 
-add-put-figure-3 : tie.Need-add-put-figure-3
-add-put-figure-3 c = search needs
-
-shared-slice-read-put-figure-4 : tie.Need-shared-slice-read-put-figure-4
-shared-slice-read-put-figure-4 c = search needs
-
 put-figure-requires-4 : tie.Need-put-figure-requires-4
 put-figure-requires-4 c κs = room-4 (c .before .before .before .before)
-
-same-length : tie.Need-same-length
-same-length c = search needs
 
 returns : tie.Need-returns
 unfolding line
@@ -132,16 +108,6 @@ pub put-line-spec : {M : Type 1} → statement M
 put-line-spec =
     tie.close
     (tie.spec
-    shared-slice-read-put-figure
-    put-figure-requires
-    add-put-figure
-    shared-slice-read-put-figure-2
-    put-figure-requires-2
-    add-put-figure-2
-    shared-slice-read-put-figure-3
-    put-figure-requires-3
-    add-put-figure-3
-    shared-slice-read-put-figure-4
-    put-figure-requires-4
-    same-length
-    returns)
+    (λ c. search needs) put-figure-requires (λ c. search needs) (λ c. search needs) put-figure-requires-2
+    (λ c. search needs) (λ c. search needs) put-figure-requires-3 (λ c. search needs) (λ c. search needs)
+    put-figure-requires-4 (λ c. search needs) returns)

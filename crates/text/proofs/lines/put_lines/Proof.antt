@@ -18,9 +18,6 @@ abbrev μ-loop : tie.MeasureT-loop
 loop-holds : tie.Need-loop-holds Inv-loop μ-loop
 loop-holds c = record { within = omega arith; same = refl; size = zero-add _; rest = refl }
 
-sub-loop : tie.Need-sub-loop Inv-loop μ-loop
-sub-loop c = c .loop .inv .within
-
 -- one entry more
 more : (c : tie.In-loop Inv-loop μ-loop) → c .before .loop .i + 4 ≤ length (c .before .before .before .before .args .journal .now)
 more c = omega (arith, c .loop-test .taken, c .before .loop .inv .within)
@@ -40,23 +37,16 @@ loop-again c =
     next (l .before .loop .inv) (more l)
     (record { place = c .before .before .put-line .ensures .0; stored = c .before .before .put-line .ensures .1 })
 
-same-length : tie.Need-same-length Inv-loop μ-loop
-same-length c = c .before .loop .inv .same
-
 returns : tie.Need-returns Inv-loop μ-loop
 returns c = let p = finished (c .before .loop .inv) (c .loop-test .left) in (p .place ∙ zero-add _, p .stored)
 
 pub put-lines-spec : {M : Type 1} → statement M
 put-lines-spec =
     tie.close
-    (tie.spec
-    Inv-loop
-    μ-loop
+    (tie.spec Inv-loop μ-loop
+    -- before the loop
     loop-holds
-    sub-loop
-    put-line-requires
-    add-i
-    loop-less
-    loop-again
-    same-length
-    returns)
+    -- a turn
+    (λ c. c .loop .inv .within) put-line-requires add-i loop-less loop-again
+    -- after the loop
+    (λ c. c .before .loop .inv .same) returns)

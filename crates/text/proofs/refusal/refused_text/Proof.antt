@@ -12,12 +12,6 @@ use borrow.Author.Needs.{needs}
 use Rattle.text.proofs.refusal.refused_text.Statement.{statement}
 use Rattle.text.proofs.refusal.refused_text.Tie as tie
 
-figure-size-requires : tie.Need-figure-size-requires
-figure-size-requires c κs = search needs
-
-add-size : tie.Need-add-size
-add-size c = search needs
-
 refused-length : (n : ℕ) → length (refused n) ≡ 8 + length (figure n 0)
 unfolding refused
 refused-length n = omega (arith, figure-length n newline .0)
@@ -26,9 +20,6 @@ returns : tie.Need-returns
 returns c =
     let a = c .before .before .before .args in
     short (refused (a .n)) (a .out .now) (omega (arith, c .if1 .taken, c .before .figure-size .ensures .0, refused-length (a .n)))
-
-put-word-requires : tie.Need-put-word-requires
-put-word-requires c κs = search needs
 
 -- past the check there is room for all of it
 fitting : (c : tie.Else1) → let a = c .before .before .before .args in length (refused (a .n)) ≤ length (a .out .now)
@@ -47,9 +38,6 @@ put-figure-requires c κs =
     let a = c .before .before .before .before .before .before .before .before .args in
     put-room (word (c .before .before .before)) (figure (a .n) newline) (room (c .before .before .before .before .before))
 
-same-length : tie.Need-same-length
-same-length c = search needs
-
 returns-2 : tie.Need-returns-2
 unfolding refused
 returns-2 c =
@@ -62,10 +50,7 @@ pub refused-text-spec : {M : Type 1} → statement M
 refused-text-spec =
     tie.close
     (tie.spec
-    figure-size-requires
-    add-size
-    returns
-    put-word-requires
-    put-figure-requires
-    same-length
-    returns-2)
+    -- `return Text {`
+    (λ c κs. search needs) (λ c. search needs) returns
+    -- otherwise
+    (λ c κs. search needs) put-figure-requires (λ c. search needs) returns-2)

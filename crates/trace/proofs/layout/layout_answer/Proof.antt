@@ -29,25 +29,13 @@ returns-2 : tie.Need-returns-2
 unfolding layoutAnswer
 returns-2 c = search tests
 
-is-marked-requires : tie.Need-is-marked-requires
-is-marked-requires c κs = search needs
-
 returns-3 : tie.Need-returns-3
 unfolding layoutAnswer
 returns-3 c = search (tests, sym (c .before .is-marked .ensures) ∙ not-true _ (c .if3 .taken))
 
-is-entry-requires : tie.Need-is-entry-requires
-is-entry-requires c κs = search needs
-
 returns-4 : tie.Need-returns-4
 unfolding layoutAnswer
 returns-4 c = search (tests, marked (c .before .before), sym (c .before .is-entry .ensures) ∙ not-true _ (c .if4 .taken))
-
-sub-size : tie.Need-sub-size
-sub-size c = search needs
-
-is-entry-requires-2 : tie.Need-is-entry-requires-2
-is-entry-requires-2 c κs = search needs
 
 returns-5 : tie.Need-returns-5
 unfolding layoutAnswer
@@ -65,14 +53,17 @@ pub layout-answer-spec : {M : Type 1} → statement M
 layout-answer-spec =
     tie.close
     (tie.spec
+    -- `file.len() < 27`
     returns
+    -- `file.len() > 32768`
     returns-2
-    is-marked-requires
-    returns-3
-    is-entry-requires
-    returns-4
-    sub-size
-    is-entry-requires-2
-    returns-5
+    -- `!is_marked(file)`
+    (λ c κs. search needs) returns-3
+    -- `!is_entry(file, 5, 1, 23, 4)`
+    (λ c κs. search needs) returns-4
+    -- `!is_entry(file, 14, 2, 27, size as u64)`
+    (λ c. search needs) (λ c κs. search needs) returns-5
+    -- `size % 2 != 0`
     returns-6
+    -- otherwise
     returns-7)

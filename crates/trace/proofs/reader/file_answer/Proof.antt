@@ -9,9 +9,6 @@ use borrow.Author.Needs.{needs}
 use Rattle.trace.proofs.reader.file_answer.Statement.{statement}
 use Rattle.trace.proofs.reader.file_answer.Tie as tie
 
-layout-answer-requires : tie.Need-layout-answer-requires
-layout-answer-requires c κs = search needs
-
 -- past the layout's checks
 kept : (c : tie.Else1) → layoutAnswer (c .before .before .before .args .file .now) ≡ 0
 kept c = sym (c .before .layout-answer .ensures) ∙ c .if1 .left
@@ -34,9 +31,6 @@ shared-slice-read-setup-answer-3 c = omega (arith, at-least (c .before .before .
 shared-slice-read-setup-answer-4 : tie.Need-shared-slice-read-setup-answer-4
 shared-slice-read-setup-answer-4 c = omega (arith, at-least (c .before .before .before .before))
 
-setup-answer-requires : tie.Need-setup-answer-requires
-setup-answer-requires c κs = search needs
-
 returns-2 : tie.Need-returns-2
 returns-2 c = c .setup-answer .ensures ∙ sym (answers _ (kept (c .before .before .before .before .before)))
 
@@ -44,11 +38,8 @@ pub file-answer-spec : {M : Type 1} → statement M
 file-answer-spec =
     tie.close
     (tie.spec
-    layout-answer-requires
-    returns
-    shared-slice-read-setup-answer
-    shared-slice-read-setup-answer-2
-    shared-slice-read-setup-answer-3
-    shared-slice-read-setup-answer-4
-    setup-answer-requires
-    returns-2)
+    -- `a != 0`
+    (λ c κs. search needs) returns
+    -- otherwise
+    shared-slice-read-setup-answer shared-slice-read-setup-answer-2 shared-slice-read-setup-answer-3
+    shared-slice-read-setup-answer-4 (λ c κs. search needs) returns-2)

@@ -12,18 +12,6 @@ use borrow.Author.Needs.{needs}
 use Rattle.trace.proofs.reader.read_events.Statement.{statement}
 use Rattle.trace.proofs.reader.read_events.Tie as tie
 
-file-answer-requires : tie.Need-file-answer-requires
-file-answer-requires c κs = search needs
-
-sub-result : tie.Need-sub-result
-sub-result c = search needs
-
-part-result-start : tie.Need-part-result-start
-part-result-start c = search needs
-
-part-result-end : tie.Need-part-result-end
-part-result-end c = search needs
-
 returns : tie.Need-returns
 unfolding readEvents eventsStart
 returns c = search (tests, sym (c .before .before .file-answer .ensures))
@@ -35,15 +23,6 @@ answered c = sym (c .before .file-answer .ensures) ∙ c .if1 .left
 at-least : (c : tie.Else1) → 27 ≤ length (c .before .before .before .args .file .now)
 at-least c = long _ (has-layout _ (answered c))
 
-sub-result-2 : tie.Need-sub-result-2
-sub-result-2 c = omega (arith, at-least c)
-
-part-result-start-2 : tie.Need-part-result-start-2
-part-result-start-2 c = omega (arith, at-least c)
-
-part-result-end-2 : tie.Need-part-result-end-2
-part-result-end-2 c = search needs
-
 returns-2 : tie.Need-returns-2
 unfolding readEvents eventsStart
 returns-2 c =
@@ -54,12 +33,7 @@ pub read-events-spec : {M : Type 1} → statement M
 read-events-spec =
     tie.close
     (tie.spec
-    file-answer-requires
-    sub-result
-    part-result-start
-    part-result-end
-    returns
-    sub-result-2
-    part-result-start-2
-    part-result-end-2
-    returns-2)
+    -- `answer != 0`
+    (λ c κs. search needs) (λ c. search needs) (λ c. search needs) (λ c. search needs) returns
+    -- otherwise
+    (λ c. omega (arith, at-least c)) (λ c. omega (arith, at-least c)) (λ c. search needs) returns-2)

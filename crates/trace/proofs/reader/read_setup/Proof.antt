@@ -9,12 +9,6 @@ use borrow.Author.Needs.{needs}
 use Rattle.trace.proofs.reader.read_setup.Statement.{statement}
 use Rattle.trace.proofs.reader.read_setup.Tie as tie
 
-layout-answer-requires : tie.Need-layout-answer-requires
-layout-answer-requires c κs = search needs
-
-blank-state-requires : tie.Need-blank-state-requires
-blank-state-requires c κs = search needs
-
 -- past the layout's checks
 kept : (c : tie.Else1) → layoutAnswer (c .before .before .before .args .file .now) ≡ 0
 kept c = sym (c .before .layout-answer .ensures) ∙ c .if1 .left
@@ -39,9 +33,6 @@ shared-slice-read-setup-3 c = omega (arith, at-least (c .before .before .before)
 shared-slice-read-setup-4 : tie.Need-shared-slice-read-setup-4
 shared-slice-read-setup-4 c = omega (arith, at-least (c .before .before .before .before))
 
-setup-requires : tie.Need-setup-requires
-setup-requires c κs = search needs
-
 returns-2 : tie.Need-returns-2
 returns-2 c = c .setup .ensures ∙ sym (reads _ (kept (c .before .before .before .before .before)))
 
@@ -49,12 +40,8 @@ pub read-setup-spec : {M : Type 1} → statement M
 read-setup-spec =
     tie.close
     (tie.spec
-    layout-answer-requires
-    blank-state-requires
-    returns
-    shared-slice-read-setup
-    shared-slice-read-setup-2
-    shared-slice-read-setup-3
-    shared-slice-read-setup-4
-    setup-requires
-    returns-2)
+    -- `return Done {`
+    (λ c κs. search needs) (λ c κs. search needs) returns
+    -- otherwise
+    shared-slice-read-setup shared-slice-read-setup-2 shared-slice-read-setup-3 shared-slice-read-setup-4
+    (λ c κs. search needs) returns-2)
