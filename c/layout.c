@@ -37,10 +37,10 @@ static zevgorim_state run(zevgorim_state state, const uint8_t *events, size_t si
 
 static void check_fresh(void) {
     zevgorim_state s = zevgorim_setup(5, 2, 3, 4).state;
-    is("processes", s.processes, 5);
-    is("leaves", s.leaves, 2);
-    is("segments", s.segments, 3);
-    is("bits", s.bits, 4);
+    is("processes", s.setup.processes, 5);
+    is("leaves", s.setup.leaves, 2);
+    is("segments", s.setup.segments, 3);
+    is("bits", s.setup.bits, 4);
     is("gate", s.gate, 24);
     is("counter 1", s.counters[1], 12);
     is("node of the last process", s.process[4].node, 1);
@@ -147,7 +147,7 @@ static void check_file(void) {
     zevgorim_part part = zevgorim_read_events(file, sizeof file);
     is("offset", (long)part.offset, 27);
     is("size", (long)part.size, 4);
-    is("setup of the file", zevgorim_read_setup(file, sizeof file).state.processes, 2);
+    is("setup of the file", zevgorim_read_setup(file, sizeof file).state.setup.processes, 2);
     is("answer of the file", zevgorim_file_answer(file, sizeof file), 0);
     is("answer of a file cut short", zevgorim_file_answer(file, 26), ZEVGORIM_NO_DAY_FILE);
     is("answer of a file less an event", zevgorim_file_answer(file, sizeof file - 2), ZEVGORIM_CONTENTS);

@@ -22,7 +22,7 @@ static zevgorim_state after(zevgorim_state state, uint8_t kind, uint8_t handset,
 /* How many handsets are not idle. */
 static unsigned busy(const zevgorim_state *state) {
     unsigned count = 0;
-    for (unsigned h = 0; h < state->processes; h++) count += state->process[h].stage != ZEVGORIM_REMAINDER;
+    for (unsigned h = 0; h < state->setup.processes; h++) count += state->process[h].stage != ZEVGORIM_REMAINDER;
     return count;
 }
 
@@ -32,7 +32,7 @@ static void print_roll(zevgorim_state state, size_t number) {
     zevgorim_report gate = zevgorim_gate_report(state);
     if (zevgorim_fill_status(state, roll, 64) != ZEVGORIM_OK) return;
     printf("after event %zu: %u pads open at the gate, %u handsets queued\n", number, gate.free, gate.queued);
-    for (unsigned h = 0; h < state.processes; h++) {
+    for (unsigned h = 0; h < state.setup.processes; h++) {
         printf("  handset %u %s", h, does[roll[h].stage]);
         if (roll[h].stage == ZEVGORIM_WORKING) printf(" pad %u, won in %u turns", roll[h].name, roll[h].steps);
         puts("");

@@ -121,15 +121,23 @@ typedef struct {
     uint8_t steps;   /* [spent] */
 } zevgorim_process;
 
+/* What a setup is given. */
+typedef struct {
+    uint8_t processes; /* [handsets] N */
+    uint8_t leaves;    /* L */
+    uint8_t segments;  /* [rows] in a leaf, g */
+    uint8_t bits;      /* in a segment, b */
+} zevgorim_setup_numbers;
+
 /* The whole state: 470 bytes without padding, so that it can be copied, compared and stored as bytes. */
 typedef struct {
-    uint8_t processes, leaves, segments, bits; /* the setup: N, L, g, b */
-    int8_t gate;                               /* gate word A, -64 to k */
-    uint8_t queued;                            /* how many wait at the gate */
-    uint8_t queue[64];                         /* their numbers, the head first; 0 past the end */
-    uint8_t counters[16];                      /* by node, 1 to L - 1; place 0 is unused */
-    uint8_t words[64];                         /* [row words] b bits for each segment, L*g of them */
-    zevgorim_process process[64];              /* N of them */
+    zevgorim_setup_numbers setup;
+    int8_t gate;                  /* gate word A, -64 to k */
+    uint8_t queued;               /* how many wait at the gate */
+    uint8_t queue[64];            /* their numbers, the head first; 0 past the end */
+    uint8_t counters[16];         /* by node, 1 to L - 1; place 0 is unused */
+    uint8_t words[64];            /* [row words] b bits for each segment, L*g of them */
+    zevgorim_process process[64]; /* N of them */
 } zevgorim_state;
 
 /* An answer, and the state after the call. */
@@ -145,7 +153,7 @@ typedef struct {
     uint8_t queued; /* processes queued there */
 } zevgorim_report;
 
-/* One record of the roll. */
+/* One status record [of the roll]. */
 typedef struct {
     uint8_t stage;
     uint8_t name;
@@ -195,7 +203,7 @@ zevgorim_done zevgorim_run(zevgorim_state state, const uint8_t *events, size_t e
 /* Names still free at the gate, and processes queued there. Refused with 15: both are 0. */
 zevgorim_report zevgorim_gate_report(zevgorim_state state);
 
-/* A record [roll] for each process in rising order; records from N on are untouched. Gives the answer.
+/* A status record for each process in rising order [roll]; records from N on are untouched. Gives the answer.
  * Refused with 15, then 13 when there are fewer than N records: nothing is written. */
 uint8_t zevgorim_fill_status(zevgorim_state state, zevgorim_status *records, size_t records_len);
 

@@ -19,14 +19,21 @@ pub struct Process {
     pub steps: u8,
 }
 
-/// The whole state.
+/// What a setup is given.
 #[repr(C)]
 #[derive(Clone, Copy, PartialEq, Eq, Debug)]
-pub struct State {
+pub struct Setup {
     pub processes: u8,
     pub leaves: u8,
     pub segments: u8,
     pub bits: u8,
+}
+
+/// The whole state.
+#[repr(C)]
+#[derive(Clone, Copy, PartialEq, Eq, Debug)]
+pub struct State {
+    pub setup: Setup,
     pub gate: i8,
     pub queued: u8,
     pub queue: [u8; 64],

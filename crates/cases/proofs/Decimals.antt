@@ -1,14 +1,11 @@
 -- The fewest digits that hold a number are its decimal: by induction on how many there are. Assumes nothing.
-use mathlib.Core.Path.{_≡_, refl, ap}
-use mathlib.Core.Bool.{Bool, true, false}
 use mathlib.Core.List.{List, [], _∷_, _++_}
 use Prim.Native.Nat.{ℕ, zero, suc, _-_, _/_, _%_, _^_, _≤_, _<_}
 use native.Mathlib.Nat.{pow-le-pow-right, mod-eq-of-lt}
-use native.Mathlib.Omega.{arith}
 use lib.Dec.{ltb}
 use mir.Syntax.{w64}
 use mir.Val.{Fits}
-use borrow.Author.Tests.{ltb-true, ltb-false, lt-ltb, le-ltb}
+use Rattle.machine.proofs.Rules.{_≡_, ap, refl, true, false, Bool, arith, lt-ltb, le-ltb, ltb-false, ltb-true}
 use Rattle.io.specs.Digits.{digits, Fewest}
 use Rattle.cases.specs.Line.{digit, decimalIn}
 

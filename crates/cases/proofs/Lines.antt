@@ -1,16 +1,17 @@
 -- Texts put into a buffer one after the other are one text put there, whether or not they fit: stores past the end change nothing.
 --     put-none, put-more     no text; two texts in a row
+--     put-next, put-all      the texts of a list's elements, one more and all
 --     put-first              what a text put at the start leaves
 --     put-counts             the place after a text lies within the buffer
 --     figures-more           a number more
 -- Assumes nothing.
-use mathlib.Core.Path.{_≡_, refl, sym, _∙_, ap}
 use mathlib.Core.List.{List, [], _∷_, _++_, append-nil, append-assoc}
-use Prim.Native.Nat.{ℕ, suc, _+_, _≤_, min}
+use Prim.Native.Nat.{ℕ, suc, _+_, _≤_, _<_, min}
 use native.Mathlib.Decide.{decLe}
-use native.Mathlib.Omega.{arith}
-use lib.ListN.{length, take, drop, set, length-append, length-set}
-use lib.Seq.{sets, set-out, length-sets, length-take-le, take-nil}
+use native.Mathlib.Numerals.{add-one}
+use lib.ListN.{length, take, drop, getD, set, length-append, length-set}
+use lib.Seq.{sets, set-out, length-sets, length-take-le, take-nil, take-suc, take-all}
+use Rattle.machine.proofs.Rules.{_≡_, _∙_, sym, ap, refl, arith}
 use Rattle.io.specs.Counts.{Counts}
 use Rattle.machine.proofs.Facts.Lists.{sets-append}
 use Rattle.cases.specs.Line.{figure, figures, sizeIn, putIn}
@@ -65,6 +66,18 @@ put-first {o} {o′} {text} p = (omega (arith, p .place), p .stored ∙ sets-cut
 
 pub put-counts : {o o′ text : List ℕ} {at r : ℕ} → Put o o′ at r text → Counts r o′
 put-counts {o} {o′} {r = r} p = (put-within p, sym (length-take-le r o′ (put-within p)))
+
+-- a loop that puts the texts of a list's elements: those of the first i stand
+pub record Texts (text : List ℕ → List ℕ) (xs o o₁ : List ℕ) (at a i : ℕ) : Type 0 where
+  pub put : Put o o₁ at a (text (take i xs))
+
+module _ {text : List ℕ → List ℕ} {xs o o₁ : List ℕ} {at a i : ℕ} (p : Texts text xs o o₁ at a i) where
+  pub put-next : (one : List ℕ) → i < length xs → text (take i xs ++ getD xs i 0 ∷ []) ≡ text (take i xs) ++ one
+      → {o₂ : List ℕ} {b : ℕ} → (b ≡ min (a + length one) (length o₁)) × (o₂ ≡ sets o₁ a one) → Texts text xs o o₂ at b (i + 1)
+  put-next one k e q = record { put = rw (add-one i, take-suc xs i 0 k, e) (put-more (p .put) (as-put q)) }
+
+  pub put-all : length xs ≤ i → (a ≡ min (at + length (text xs)) (length o)) × (o₁ ≡ sets o at (text xs))
+  put-all k = let all = rw (take-all i xs k) at (p .put) in (all .place, all .stored)
 
 -- one number more is one figure more
 pub figures-more : (ns : List ℕ) (n : ℕ) → figures (ns ++ n ∷ []) ≡ figures ns ++ figure n

@@ -6,6 +6,7 @@ use lib.ListN.{getD}
 use mir.Syntax.{w8}
 use mir.Val.{toZ, ofZ}
 use Rattle.machine.specs.Below.{tabulate}
+use Rattle.machine.specs.Setup.{plain}
 use Rattle.machine.specs.declared.Process.{Process}
 use Rattle.machine.specs.declared.State.{State}
 
@@ -29,10 +30,7 @@ bytesFrom image at n = tabulate n (λ i. byteAt image (at + i))
 unfoldable pub stateOf : List ℕ → State
 stateOf image =
     record {
-      processes = byteAt image 0;
-      leaves = byteAt image 1;
-      segments = byteAt image 2;
-      bits = byteAt image 3;
+      setup = plain (byteAt image 0) (byteAt image 1) (byteAt image 2) (byteAt image 3);
       gate = toZ w8 (byteAt image 4);
       queued = byteAt image 5;
       queue = bytesFrom image 6 64;
@@ -51,7 +49,7 @@ processesBytes (h ∷ hs) = processBytes h ++ processesBytes hs
 
 unfoldable pub imageOf : State → List ℕ
 imageOf s =
-    (s .processes ∷ s .leaves ∷ s .segments ∷ s .bits ∷ ofZ w8 (s .gate) ∷ s .queued ∷ [])
+    (s .setup .processes ∷ s .setup .leaves ∷ s .setup .segments ∷ s .setup .bits ∷ ofZ w8 (s .gate) ∷ s .queued ∷ [])
     ++ (s .queue ++ (s .counters ++ (s .words ++ processesBytes (s .process))))
 
 -- each byte is added to 31 times the figure before it, modulo 65521

@@ -1,5 +1,6 @@
 // A state from 470 bytes, one for each number in the order of its fields, and the figure that shows a state on a line.
 use machine::Process;
+use machine::Setup;
 use machine::State;
 ghost use mathlib.Core.Path.{_≡_};
 ghost use Prim.Native.Nat.{_+_, _<_, _≤_};
@@ -81,10 +82,12 @@ pub fn state_of(image: &[u8; 470]) -> State
     load(image, 86, &mut words);
     let process = load_processes(image);
     State {
-        processes: image[0],
-        leaves: image[1],
-        segments: image[2],
-        bits: image[3],
+        setup: Setup {
+            processes: image[0],
+            leaves: image[1],
+            segments: image[2],
+            bits: image[3],
+        },
         gate: signed(image[4]),
         queued: image[5],
         queue: queue,
@@ -145,10 +148,10 @@ pub fn digest(state: State) -> u64
     ensures { λ r. ⌜ r ≡ digestOf state ⌝ }
 {
     let first = [
-        state.processes,
-        state.leaves,
-        state.segments,
-        state.bits,
+        state.setup.processes,
+        state.setup.leaves,
+        state.setup.segments,
+        state.setup.bits,
         unsigned(state.gate),
         state.queued,
     ];

@@ -1,2 +1,4 @@
 -- What the functions' proofs share.
+pub mod Accepted
+pub mod Levels
 pub mod Tabulated

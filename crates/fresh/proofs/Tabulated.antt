@@ -6,20 +6,18 @@
 --     filled-next      the function's value stored at the boundary
 --     filled-whole     an array filled up to where the function stays d is the whole list
 -- Assumes nothing.
-use mathlib.Core.Path.{_≡_, sym, _∙_, subst}
-use mathlib.Core.Bool.{cond}
 use mathlib.Core.List.{List}
 use Prim.Native.Nat.{ℕ, _+_, _≤_, _<_}
 use native.Mathlib.Decide.{ℕ-discrete, decLt}
-use native.Mathlib.Omega.{arith}
-use borrow.Author.Tests.{lt-ltb, le-ltb}
 use lib.Dec.{ltb}
 use lib.ListN.{length, getD, set, length-set, replicate, length-replicate}
 use lib.Seq.{ext-getD, getD-set-same, getD-set-other}
+use Rattle.machine.proofs.Rules.{_≡_, _∙_, sym, subst, cond, arith, lt-ltb, le-ltb}
 use Rattle.machine.specs.Below.{tabulate}
 use Rattle.machine.proofs.Facts.Below.{length-tabulate, getD-tabulate, getD-constant}
 
-pub by-place : {A : Type 0} (n : ℕ) (f : ℕ → A) (d : A) (xs : List A) → length xs ≡ n → ((j : ℕ) → j < n → getD xs j d ≡ f j) → xs ≡ tabulate n f
+pub by-place : {A : Type 0} (n : ℕ) (f : ℕ → A) (d : A) (xs : List A) → length xs ≡ n
+    → ((j : ℕ) → j < n → getD xs j d ≡ f j) → xs ≡ tabulate n f
 by-place n f d xs e h =
     ext-getD d xs (tabulate n f) (e ∙ sym (length-tabulate n f))
     (λ j l. let k : j < n = subst (λ (m : ℕ). j < m) e l in h j k ∙ sym (getD-tabulate n f j d k))
@@ -46,7 +44,8 @@ module _ {A : Type 0} (n : ℕ) (f : ℕ → A) (d : A) where
 
   pub filled-next : (i : ℕ) (x : A) → i < n → x ≡ f i → set (filled i) i x ≡ filled (i + 1)
   filled-next i x l e =
-      by-place n (part (i + 1)) d (set (filled i) i x) (length-set (filled i) i x ∙ length-tabulate n (part i)) (λ j k. go j k (ℕ-discrete j i))
+      by-place n (part (i + 1)) d (set (filled i) i x) (length-set (filled i) i x ∙ length-tabulate n (part i))
+      (λ j k. go j k (ℕ-discrete j i))
     where
       other : (j : ℕ) → (j ≡ i → ⊥) → Dec (j < i) → part i j ≡ part (i + 1) j
       other j q (yes k) = below i j k ∙ sym (below (i + 1) j (omega arith))

@@ -3,13 +3,10 @@
 --     Move             what an accepted event of a kind does, with the stage that it found
 --     event-outcome    every event is refused or a move
 -- Assumes nothing.
-use mathlib.Core.Path.{_≡_, refl}
-use mathlib.Core.Bool.{true}
-use Prim.Native.Nat.{ℕ, zero, suc, _<_}
-use native.Mathlib.Omega.{arith}
+use Prim.Native.Nat.{ℕ, _<_}
 use lib.Dec.{eqb, ltb, leb}
 use lib.ListN.{getD}
-use borrow.Author.Tests.{ltb-true, eqb-true}
+use Rattle.machine.proofs.Rules.{_≡_, refl, true, arith, eqb-true, ltb-true}
 use Rattle.machine.specs.Event.{refused, request, release, guarded, stages, stay, step, kinds, event}
 use Rattle.machine.specs.Gate.{enter, await}
 use Rattle.machine.specs.Getname.{getnameStep}
@@ -19,6 +16,7 @@ use Rattle.machine.specs.Stage.{remainder, entry, waiting, getname, work
 use Rattle.machine.specs.State.{done, freshProcess, withStage, processAt, withProcess, update}
 use Rattle.machine.specs.declared.Done.{Done}
 use Rattle.machine.specs.declared.State.{State}
+use Rattle.machine.proofs.Facts.Rows.{by-row}
 use Rattle.machine.proofs.Facts.Tests.{by-cond}
 use Rattle.machine.proofs.Ranges.{Ranges, ranges-of, in-range}
 use Rattle.machine.proofs.Stores.{fresh-process, new-stage, store-process}
@@ -35,9 +33,9 @@ pub data Move (s : State) (p : ℕ) : ℕ → State → Type 0 where
 
 pub data Outcome (s : State) (kind p : ℕ) : Done → Type 0 where
   refuses : (a : ℕ) → 0 < a → Outcome s kind p (done a s)
-  accepts : {t : State} → Ranges s → p < s .processes → Move s p kind t → inRange t ≡ true → Outcome s kind p (done 0 t)
+  accepts : {t : State} → Ranges s → p < s .setup .processes → Move s p kind t → inRange t ≡ true → Outcome s kind p (done 0 t)
 
-module _ (s : State) (p : ℕ) (k : Ranges s) (kp : p < s .processes) where
+module _ (s : State) (p : ℕ) (k : Ranges s) (kp : p < s .setup .processes) where
   request-outcome : Outcome s 0 p (request s p)
   unfolding request
   request-outcome =
@@ -61,21 +59,35 @@ module _ (s : State) (p : ℕ) (k : Ranges s) (kp : p < s .processes) where
   turn-outcome f m = by-cond (Outcome s 1 p) (inRange (f s p)) (accepts k kp m) (λ _. refuses 15 (omega arith))
 
   step-outcome : (stage : ℕ) → processAt s p .stage ≡ stage → Outcome s 1 p (getD stages stage (refused 15) s p)
-  step-outcome zero e = refuses 8 (omega arith)
-  step-outcome (suc zero) e = turn-outcome enter (enters e)
-  step-outcome (suc (suc zero)) e = turn-outcome await (awaits e)
-  step-outcome (suc (suc (suc zero))) e = turn-outcome getnameStep (claims e)
-  step-outcome (suc (suc (suc (suc zero)))) e = refuses 8 (omega arith)
-  step-outcome (suc (suc (suc (suc (suc zero))))) e = turn-outcome putnameStep (returns e)
-  step-outcome (suc (suc (suc (suc (suc (suc zero)))))) e = turn-outcome stay (stays e)
-  step-outcome (suc (suc (suc (suc (suc (suc (suc n))))))) e = refuses 15 (omega arith)
+  step-outcome =
+      by-row (λ stage f. processAt s p .stage ≡ stage → Outcome s 1 p (f s p)) stages (refused 15) (
+        λ _. refuses 8 (omega arith),
+        (
+          λ e. turn-outcome enter (enters e),
+          (
+            λ e. turn-outcome await (awaits e),
+            (
+              λ e. turn-outcome getnameStep (claims e),
+              (
+                λ _. refuses 8 (omega arith),
+                (
+                  λ e. turn-outcome putnameStep (returns e),
+                  (
+                    λ e. turn-outcome stay (stays e),
+                    λ _ _. refuses 15 (omega arith),
+                  ),
+                ),
+              ),
+            ),
+          ),
+        ),
+      )
 
   kind-outcome : (kind : ℕ) → Outcome s kind p (getD kinds kind (refused 12) s p)
   unfolding step
-  kind-outcome zero = request-outcome
-  kind-outcome (suc zero) = step-outcome (processAt s p .stage) refl
-  kind-outcome (suc (suc zero)) = release-outcome
-  kind-outcome (suc (suc (suc n))) = refuses 12 (omega arith)
+  kind-outcome =
+      by-row (λ kind f. Outcome s kind p (f s p)) kinds (refused 12)
+      (request-outcome, (step-outcome (processAt s p .stage) refl, (release-outcome, λ _. refuses 12 (omega arith))))
 
 pub event-outcome : (s : State) (kind p : ℕ) → Outcome s kind p (event s kind p)
 unfolding event
@@ -84,8 +96,8 @@ event-outcome s kind p =
     (λ e.
     by-cond (Outcome s kind p) (leb kind 2)
     (λ _.
-    by-cond (Outcome s kind p) (ltb p (s .processes))
-    (λ l. kind-outcome s p (ranges-of s e) (ltb-true p (s .processes) l) kind)
+    by-cond (Outcome s kind p) (ltb p (s .setup .processes))
+    (λ l. kind-outcome s p (ranges-of s e) (ltb-true p (s .setup .processes) l) kind)
     (λ _. refuses 6 (omega arith)))
     (λ _. refuses 12 (omega arith)))
     (λ _. refuses 15 (omega arith))

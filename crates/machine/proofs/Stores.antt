@@ -1,110 +1,107 @@
 -- A state in range stays so when one of its parts changes to a value in range: place by place.
---     fresh-process, new-stage, new-node                     a process whose numbers are in range
+--     fresh-process, new-stage, new-node, new-name           a process whose numbers are in range
 --     store-process, store-counter, store-word, set-gate     one number or record stored
 --     join-queue, advance-queue                              one more at the queue's end; its head gone
 -- Assumes nothing.
-use mathlib.Core.Path.{_≡_, refl}
-use mathlib.Core.Bool.{true, cond}
 use mathlib.Core.List.{List}
 use Prim.Native.Nat.{ℕ, suc, _+_, _*_, _-_, _^_, _≤_, _<_}
 use native.Mathlib.Decide.{decLt}
-use native.Mathlib.Omega.{arith}
 use lib.Dec.{eqb}
 use lib.IntN.{ℤ}
 use lib.ListN.{length, getD, set, List·getD-eq-default}
 use lib.Seq.{getD-set-same}
-use borrow.Author.Tests.{eqb-true}
+use Rattle.machine.proofs.Rules.{_≡_, refl, true, cond, arith, eqb-true}
 use Rattle.machine.specs.Gate.{joined, movedUp, headGone}
 use Rattle.machine.specs.Range.{gateInRange, ProcessRanges}
-use Rattle.machine.specs.State.{noProcess, freshProcess, withStage, withNode, processAt, withProcess, withCounter, withWord, withGate, withQueue, namesOf, freshCounter}
+use Rattle.machine.specs.Setup.{names}
+use Rattle.machine.specs.Stage.{exhausted}
+use Rattle.machine.specs.State.{none, noProcess, freshProcess, withStage, withNode, withName, processAt, withProcess, withCounter, withWord, withGate, withQueue, rebuilt, freshCounter}
 use Rattle.machine.specs.declared.Process.{Process}
+use Rattle.machine.specs.declared.Setup.{Setup}
 use Rattle.machine.specs.declared.State.{State}
 use Rattle.machine.proofs.Facts.Tests.{by-cond}
 use Rattle.machine.proofs.Facts.Lists.{getD-set-by, getD-moved}
 use Rattle.machine.proofs.Ranges.{Limits, QueueRanges, Ranges}
 use Rattle.machine.proofs.Facts.Leaves.{leaves-low}
 
-pub fresh-process : {n l g b : ℕ} → Limits n l g b → ProcessRanges l g b freshProcess
-fresh-process {l = l} k =
+pub fresh-process : {c : Setup} → Limits c → ProcessRanges c freshProcess
+fresh-process {c} k =
     record {
       stage = omega arith;
       node1 = omega arith;
-      node = omega (arith, leaves-low l (k .leaves));
+      node = omega (arith, leaves-low (c .leaves) (k .leaves));
       segment = k .g1;
       name = λ d. absurd (d refl);
       steps = omega arith;
     }
 
-pub new-stage : {l g b : ℕ} {h : Process} (n : ℕ) → n ≤ 6 → ProcessRanges l g b h → ProcessRanges l g b (withStage n h)
+pub new-stage : {c : Setup} {h : Process} (n : ℕ) → n ≤ exhausted → ProcessRanges c h → ProcessRanges c (withStage n h)
 new-stage n e k =
     record { stage = e; node1 = k .node1; node = k .node; segment = k .segment; name = k .name; steps = k .steps }
 
-pub new-node : {l g b : ℕ} {h : Process} (v : ℕ) → 1 ≤ v → v < 2 * l → ProcessRanges l g b h → ProcessRanges l g b (withNode v h)
+pub new-node : {c : Setup} {h : Process} (v : ℕ) → 1 ≤ v → v < 2 * c .leaves → ProcessRanges c h → ProcessRanges c (withNode v h)
 new-node v low high k =
     record { stage = k .stage; node1 = low; node = high; segment = k .segment; name = k .name; steps = k .steps }
 
+pub new-name : {c : Setup} {h : Process} (m : ℕ) → ((m ≡ none → ⊥) → m < names c) → ProcessRanges c h
+    → ProcessRanges c (withName m h)
+new-name m e k =
+    record { stage = k .stage; node1 = k .node1; node = k .node; segment = k .segment; name = e; steps = k .steps }
+
 module _ (s : State) (k : Ranges s) where
-  pub store-process : (p : ℕ) (h : Process) → ProcessRanges (s .leaves) (s .segments) (s .bits) h → Ranges (withProcess p h s)
+  abbrev c : Setup
+  c = s .setup
+
+  -- a state with other parts, each in range
+  rebuilt-ranges : {a : ℤ} {n : ℕ} {q cs ws : List ℕ} {ps : List Process}
+      → gateInRange (names c) a ≡ true
+      → QueueRanges (c .processes) n q
+      → ((v : ℕ) → 0 < v → v < c .leaves → getD cs v 0 ≤ freshCounter c v)
+      → ((r : ℕ) → r < c .leaves * c .segments → getD ws r 0 < 2 ^ c .bits)
+      → ((p : ℕ) → p < c .processes → ProcessRanges c (getD ps p noProcess))
+      → Ranges (rebuilt a n q cs ws ps s)
+  rebuilt-ranges ka kq kc kw kp =
+      record { limits = k .limits; gate = ka; queue = kq; counters = kc; words = kw; process = kp }
+
+  pub store-process : (p : ℕ) (h : Process) → ProcessRanges c h → Ranges (withProcess p h s)
   store-process p h kh =
-      record {
-        limits = k .limits;
-        gate = k .gate;
-        queue = k .queue;
-        counters = k .counters;
-        words = k .words;
-        process = λ q l.
-            getD-set-by (λ (x : Process). ProcessRanges (s .leaves) (s .segments) (s .bits) x) (s .process) p h q noProcess
-            (λ _. kh)
-            (k .process q l);
-      }
+      rebuilt-ranges (k .gate) (k .queue) (k .counters) (k .words)
+      (λ q l. getD-set-by (ProcessRanges c) (s .process) p h q noProcess (λ _. kh) (k .process q l))
 
   -- the process stored stands at its place
-  pub own-record : (p : ℕ) (h : Process) → p < s .processes → length (s .process) ≡ 64 → processAt (withProcess p h s) p ≡ h
+  pub own-record : (p : ℕ) (h : Process) → p < c .processes → length (s .process) ≡ 64 → processAt (withProcess p h s) p ≡ h
   own-record p h kp e = getD-set-same (s .process) p h noProcess (omega (arith, k .limits .n64))
 
-  pub store-counter : (v c : ℕ) → c ≤ freshCounter (namesOf s) v → Ranges (withCounter v c s)
-  store-counter v c kc =
-      record {
-        limits = k .limits;
-        gate = k .gate;
-        queue = k .queue;
-        counters = λ u low l.
-            getD-set-by (λ (x : ℕ). x ≤ freshCounter (namesOf s) u) (s .counters) v c u 0 (λ e. rw e kc) (k .counters u low l);
-        words = k .words;
-        process = k .process;
-      }
+  pub store-counter : (v n : ℕ) → n ≤ freshCounter c v → Ranges (withCounter v n s)
+  store-counter v n kn =
+      rebuilt-ranges (k .gate) (k .queue)
+      (λ u low l. getD-set-by (λ (x : ℕ). x ≤ freshCounter c u) (s .counters) v n u 0 (λ e. rw e kn) (k .counters u low l))
+      (k .words) (k .process)
 
-  pub store-word : (r w : ℕ) → w < 2 ^ s .bits → Ranges (withWord r w s)
+  pub store-word : (r w : ℕ) → w < 2 ^ c .bits → Ranges (withWord r w s)
   store-word r w kw =
-      record {
-        limits = k .limits;
-        gate = k .gate;
-        queue = k .queue;
-        counters = k .counters;
-        words = λ q l. getD-set-by (λ (x : ℕ). x < 2 ^ s .bits) (s .words) r w q 0 (λ _. kw) (k .words q l);
-        process = k .process;
-      }
+      rebuilt-ranges (k .gate) (k .queue) (k .counters)
+      (λ q l. getD-set-by (λ (x : ℕ). x < 2 ^ c .bits) (s .words) r w q 0 (λ _. kw) (k .words q l))
+      (k .process)
 
-  pub set-gate : (a : ℤ) → gateInRange (namesOf s) a ≡ true → Ranges (withGate a s)
-  set-gate a ka =
-      record { limits = k .limits; gate = ka; queue = k .queue; counters = k .counters; words = k .words; process = k .process }
+  pub set-gate : (a : ℤ) → gateInRange (names c) a ≡ true → Ranges (withGate a s)
+  set-gate a ka = rebuilt-ranges ka (k .queue) (k .counters) (k .words) (k .process)
 
-  set-queue : (n : ℕ) (q : List ℕ) → QueueRanges (s .processes) n q → Ranges (withQueue n q s)
-  set-queue n q kq =
-      record { limits = k .limits; gate = k .gate; queue = kq; counters = k .counters; words = k .words; process = k .process }
+  set-queue : (n : ℕ) (q : List ℕ) → QueueRanges (c .processes) n q → Ranges (withQueue n q s)
+  set-queue n q kq = rebuilt-ranges (k .gate) kq (k .counters) (k .words) (k .process)
 
   -- every place of the queue holds a number below N, past its end too
-  place-below : (i : ℕ) → i < 64 → Dec (i < s .queued) → getD (s .queue) i 0 < s .processes
+  place-below : (i : ℕ) → i < 64 → Dec (i < s .queued) → getD (s .queue) i 0 < s .setup .processes
   place-below i l (yes e) = k .queue .entries i e
   place-below i l (no d) = omega (arith, k .queue .zeros i (omega arith) l, k .limits .n1)
 
-  pub join-queue : (p : ℕ) → p < s .processes → s .queued < 64 → Ranges (joined p s)
+  pub join-queue : (p : ℕ) → p < s .setup .processes → s .queued < 64 → Ranges (joined p s)
   join-queue p kp room =
       set-queue (s .queued + 1) (set (s .queue) (s .queued) p)
       (record {
         size = omega arith;
         entries = λ i l.
-            getD-set-by (λ (x : ℕ). x < s .processes) (s .queue) (s .queued) p i 0
+            getD-set-by (λ (x : ℕ). x < s .setup .processes) (s .queue) (s .queued) p i 0
             (λ _. kp)
             (place-below i (omega arith) (decLt i (s .queued)));
         zeros = λ i l m.
@@ -121,7 +118,7 @@ module _ (s : State) (k : Ranges s) where
     unfolding headGone movedUp
     advance-queue =
         set-queue (s .queued - 1) (cond (eqb (s .queued) 0) (s .queue) (movedUp (s .queue)))
-        (by-cond (QueueRanges (s .processes) (s .queued - 1)) (eqb (s .queued) 0)
+        (by-cond (QueueRanges (s .setup .processes) (s .queued - 1)) (eqb (s .queued) 0)
         (λ e.
         let none-queued : s .queued ≡ 0 = eqb-true _ 0 e in
         record { size = omega arith; entries = λ i l. absurd (omega arith); zeros = λ i _. k .queue .zeros i (omega arith) })

@@ -14,4 +14,4 @@ isAdmitted s p = leb getname (processAt s p .stage) || (eqb (processAt s p .stag
 
 -- how many are
 unfoldable pub admitted : State → ℕ
-admitted s = countBelow (s .processes) (isAdmitted s)
+admitted s = countBelow (s .setup .processes) (isAdmitted s)

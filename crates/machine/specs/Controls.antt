@@ -12,18 +12,20 @@ use Rattle.machine.specs.Event.{event}
 use Rattle.machine.specs.Lists.{Event, eventsOf, after, journal, run, runJournal}
 use Rattle.machine.specs.Operations.{setFirstZero}
 use Rattle.machine.specs.Range.{inRange}
-use Rattle.machine.specs.Reports.{gateReport, statusAnswer, statusList}
+use Rattle.machine.specs.Reports.{gateReport, statusAnswer, statusRecords}
+use Rattle.machine.specs.Setup.{plain}
 use Rattle.machine.specs.Runs.{ask, turn, finish, line}
 use Rattle.machine.specs.State.{done, none, freshProcess, withStage, withNode, withSegment, withName, withSteps, processAt, counterAt, withGate, withQueue, withCounter, withWord, withProcess, update, fresh, blank, setup}
 use Rattle.machine.specs.declared.Process.{Process}
 use Rattle.machine.specs.declared.State.{State}
+use Rattle.machine.specs.declared.Status.{Status}
 
 -- two processes, two leaves of one segment of one bit; and one name for three
 abbrev pub pair : State
-pair = fresh 2 2 1 1
+pair = fresh (plain 2 2 1 1)
 
 abbrev pub single : State
-single = fresh 3 1 1 1
+single = fresh (plain 3 1 1 1)
 
 -- process 0 wins by the left leaf and process 1 by the right; 1 gives its name back, then 0
 abbrev pub round : List Event
@@ -42,19 +44,19 @@ queueing =
 
 -- process 0 at the last of two full segments
 abbrev pub full : State
-full = withWord 0 1 (withWord 1 1 (update 0 (λ h. withStage 3 (withSegment 1 h)) (fresh 2 1 2 1)))
+full = withWord 0 1 (withWord 1 1 (update 0 (λ h. withStage 3 (withSegment 1 h)) (fresh (plain 2 1 2 1))))
 
 -- states with a number outside its range, at each end that a range has
 abbrev pub broken : List State
 broken =
-    fresh 0 2 1 1
-    ∷ fresh 65 2 1 1
-    ∷ fresh 2 3 1 1
-    ∷ fresh 2 2 0 1
-    ∷ fresh 2 2 9 1
-    ∷ fresh 2 2 1 0
-    ∷ fresh 2 2 1 9
-    ∷ fresh 2 16 8 1
+    fresh (plain 0 2 1 1)
+    ∷ fresh (plain 65 2 1 1)
+    ∷ fresh (plain 2 3 1 1)
+    ∷ fresh (plain 2 2 0 1)
+    ∷ fresh (plain 2 2 9 1)
+    ∷ fresh (plain 2 2 1 0)
+    ∷ fresh (plain 2 2 1 9)
+    ∷ fresh (plain 2 16 8 1)
     ∷ withGate (pos 3) pair
     ∷ withGate (negsuc 64) pair
     ∷ withQueue 65 (replicate 64 0) pair
@@ -73,19 +75,26 @@ broken =
     ∷ blank
     ∷ []
 
+-- 9 in every place of a process, and of a status record
+abbrev pub nines : Process
+nines = withStage 9 (withNode 9 (withSegment 9 (withName 9 (withSteps 9 freshProcess))))
+
+abbrev pub noted : Status
+noted = record { stage = 9; name = 9; steps = 9 }
+
 -- each number at an end of its range, and any number where nothing is used
 abbrev pub whole : List State
 whole =
-    fresh 1 1 1 1
-    ∷ fresh 1 16 2 2
-    ∷ fresh 64 16 2 2
-    ∷ fresh 64 1 8 8
+    fresh (plain 1 1 1 1)
+    ∷ fresh (plain 1 16 2 2)
+    ∷ fresh (plain 64 16 2 2)
+    ∷ fresh (plain 64 1 8 8)
     ∷ withGate (negsuc 63) pair
     ∷ withQueue 64 (replicate 64 1) pair
     ∷ withCounter 1 0 pair
     ∷ withWord 1 1 pair
-    ∷ withProcess 1 (record { stage = 6; node = 3; segment = 0; name = 1; steps = 255 }) pair
-    ∷ withCounter 0 255 (withCounter 2 255 (withWord 2 255 (withProcess 2 (record { stage = 9; node = 9; segment = 9; name = 9; steps = 9 }) pair)))
+    ∷ update 1 (λ h. withStage 6 (withNode 3 (withName 1 (withSteps 255 h)))) pair
+    ∷ withCounter 0 255 (withCounter 2 255 (withWord 2 255 (withProcess 2 nines pair)))
     ∷ []
 
 -- states in range whose next turn of process 0 would leave one: the gate word at -64, the queue full, the steps at 255,
@@ -105,12 +114,13 @@ numbers h = h .stage ∷ h .node ∷ h .segment ∷ h .name ∷ h .steps ∷ []
 
 pub record Controls : Type 0 where
   -- setup checks 1 to 5 in that order: each of these is bad in every later way too
-  pub setups : map (λ (d : ℕ × ℕ × ℕ × ℕ). setup (d .0) (d .1) (d .2) (d .3)) ((65, 3, 9, 9) ∷ (64, 3, 9, 9) ∷ (64, 16, 9, 9) ∷ (64, 16, 8, 9) ∷ (64, 16, 8, 8) ∷ [])
+  pub setups :
+      map setup (plain 65 3 9 9 ∷ plain 64 3 9 9 ∷ plain 64 16 9 9 ∷ plain 64 16 8 9 ∷ plain 64 16 8 8 ∷ [])
       ≡ done 1 blank ∷ done 2 blank ∷ done 3 blank ∷ done 4 blank ∷ done 5 blank ∷ []
   -- of several clear bits the lowest is set
   pub lowest : setFirstZero 3 0 ≡ record { answer = 0; word = 1 }
   -- counters k / 2^(d+1), by node
-  pub counters : fresh 64 16 2 2 .counters ≡ 0 ∷ 32 ∷ 16 ∷ 16 ∷ 8 ∷ 8 ∷ 8 ∷ 8 ∷ 4 ∷ 4 ∷ 4 ∷ 4 ∷ 4 ∷ 4 ∷ 4 ∷ 4 ∷ []
+  pub counters : fresh (plain 64 16 2 2) .counters ≡ 0 ∷ 32 ∷ 16 ∷ 16 ∷ 8 ∷ 8 ∷ 8 ∷ 8 ∷ 4 ∷ 4 ∷ 4 ∷ 4 ∷ 4 ∷ 4 ∷ 4 ∷ 4 ∷ []
   -- fresh: 0, 1, 0, 255, 0; and 0 where the setup leaves a place unused
   pub fresh-processes : map numbers (take 3 (pair .process)) ≡ (0 ∷ 1 ∷ 0 ∷ 255 ∷ 0 ∷ []) ∷ (0 ∷ 1 ∷ 0 ∷ 255 ∷ 0 ∷ []) ∷ replicate 5 0 ∷ []
   pub fresh-unused : (pair .counters ≡ 0 ∷ 1 ∷ replicate 14 0) × (pair .words ≡ replicate 64 0) × (pair .queue ≡ replicate 64 0)
@@ -154,8 +164,7 @@ pub record Controls : Type 0 where
       ∷ record { answer = 15; free = 0; queued = 0 }
       ∷ []
   -- the status records: 15, 13; records from N on are untouched, and a refused list writes nothing
-  pub status : statusList (after pair (take 4 round)) (replicate 3 (record { stage = 9; name = 9; steps = 9 }))
-      ≡ record { stage = 4; name = 0; steps = 2 } ∷ record { stage = 0; name = none; steps = 0 } ∷ record { stage = 9; name = 9; steps = 9 } ∷ []
+  pub status : statusRecords (after pair (take 4 round)) (replicate 3 noted)
+      ≡ record { stage = 4; name = 0; steps = 2 } ∷ record { stage = 0; name = none; steps = 0 } ∷ noted ∷ []
   pub status-state : statusAnswer blank [] ≡ 15
-  pub status-short : (statusAnswer pair (replicate 1 (record { stage = 9; name = 9; steps = 9 })) ≡ 13)
-      × (statusList pair (replicate 1 (record { stage = 9; name = 9; steps = 9 })) ≡ replicate 1 (record { stage = 9; name = 9; steps = 9 }))
+  pub status-short : (statusAnswer pair (noted ∷ []) ≡ 13) × (statusRecords pair (noted ∷ []) ≡ noted ∷ [])

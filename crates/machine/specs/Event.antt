@@ -3,9 +3,11 @@ use mathlib.Core.List.{List, [], _∷_}
 use Prim.Native.Nat.{ℕ}
 use lib.Dec.{leb, ltb, eqb}
 use lib.ListN.{getD}
+use Rattle.machine.specs.Answer as answer
 use Rattle.machine.specs.Check.{Check, check, checked}
 use Rattle.machine.specs.Gate.{enter, await}
 use Rattle.machine.specs.Getname.{getnameStep}
+use Rattle.machine.specs.Kind as kind
 use Rattle.machine.specs.Putname.{putnameStep}
 use Rattle.machine.specs.Range.{inRange}
 use Rattle.machine.specs.Stage.{remainder, entry, working, putname}
@@ -20,16 +22,18 @@ refused a s p = done a s
 -- Ask, only when idle: stage 1, node 1, segment 0, name 255, steps 0. That is a fresh process in stage 1.
 unfoldable pub request : State → ℕ → Done
 request s p =
-    checked (check 7 (eqb (processAt s p .stage) remainder) ∷ []) (λ a. done a s) (done 0 (withProcess p (withStage entry freshProcess) s))
+    checked (check answer.busy (eqb (processAt s p .stage) remainder) ∷ []) (λ a. done a s)
+    (done answer.accepted (withProcess p (withStage entry freshProcess) s))
 
 -- Finish, only when holding: stage 5.
 unfoldable pub release : State → ℕ → Done
 release s p =
-    checked (check 9 (eqb (processAt s p .stage) working) ∷ []) (λ a. done a s) (done 0 (update p (withStage putname) s))
+    checked (check answer.noNameHeld (eqb (processAt s p .stage) working) ∷ []) (λ a. done a s)
+    (done answer.accepted (update p (withStage putname) s))
 
 -- A turn that would take a number outside its range is refused.
 unfoldable pub guarded : (State → ℕ → State) → State → ℕ → Done
-guarded f s p = checked (check 15 (inRange (f s p)) ∷ []) (λ a. done a s) (done 0 (f s p))
+guarded f s p = checked (check answer.brokenState (inRange (f s p)) ∷ []) (λ a. done a s) (done answer.accepted (f s p))
 
 -- Stage 6: no change.
 abbrev pub stay : State → ℕ → State
@@ -38,25 +42,29 @@ stay s p = s
 -- Turn, never when idle or holding; the stage decides.
 abbrev pub stages : List (State → ℕ → Done)
 stages =
-    refused 8
+    refused answer.notMoving
     ∷ guarded enter
     ∷ guarded await
     ∷ guarded getnameStep
-    ∷ refused 8
+    ∷ refused answer.notMoving
     ∷ guarded putnameStep
     ∷ guarded stay
     ∷ []
 
 unfoldable pub step : State → ℕ → Done
-step s p = getD stages (processAt s p .stage) (refused 15) s p
+step s p = getD stages (processAt s p .stage) (refused answer.brokenState) s p
 
 -- Kinds 0 to 2.
 abbrev pub kinds : List (State → ℕ → Done)
 kinds = request ∷ step ∷ release ∷ []
 
 abbrev pub eventChecks : State → ℕ → ℕ → List Check
-eventChecks s kind p = check 15 (inRange s) ∷ check 12 (leb kind 2) ∷ check 6 (ltb p (s .processes)) ∷ []
+eventChecks s k p =
+    check answer.brokenState (inRange s)
+    ∷ check answer.kind (leb k kind.release)
+    ∷ check answer.stranger (ltb p (s .setup .processes))
+    ∷ []
 
 -- An event: 15 for the state, 12, 6, then 7, 8 or 9, then 15 for the turn.
 unfoldable pub event : State → ℕ → ℕ → Done
-event s kind p = checked (eventChecks s kind p) (λ a. done a s) (getD kinds kind (refused 12) s p)
+event s k p = checked (eventChecks s k p) (λ a. done a s) (getD kinds k (refused answer.kind) s p)

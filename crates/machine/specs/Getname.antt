@@ -9,6 +9,7 @@ use Rattle.machine.specs.State.{withStage, withNode, withSegment, withNa
 use Rattle.machine.specs.declared.ClaimStep.{ClaimStep}
 use Rattle.machine.specs.declared.ClaimStep.the-variants.{Left, Right, Won, NextSegment, Exhausted}
 use Rattle.machine.specs.declared.Process.{Process}
+use Rattle.machine.specs.declared.Setup.{Setup}
 use Rattle.machine.specs.declared.State.{State}
 
 -- the numbers that each case gives the process: a node; stage 4 with a name; a segment; or stage 6 with the segment unchanged
@@ -28,8 +29,9 @@ unfoldable pub side : ℕ → ℕ → ClaimStep
 side v old = cond (ltb 0 old) (Left (2 * v)) (Right (2 * v + 1))
 
 -- An answer m below b gives name r·b + m. An answer of b moves to the next segment, or, at segment g - 1, finds none left.
-unfoldable pub outcome : ℕ → ℕ → ℕ → ℕ → ℕ → ClaimStep
-outcome g b r i m = cond (ltb m b) (Won (r * b + m)) (cond (ltb (i + 1) g) (NextSegment (i + 1)) Exhausted)
+unfoldable pub outcome : Setup → ℕ → ℕ → ℕ → ClaimStep
+outcome c r i m =
+    cond (ltb m (c .bits)) (Won (r * c .bits + m)) (cond (ltb (i + 1) (c .segments)) (NextSegment (i + 1)) Exhausted)
 
 -- At a node below L: bounded decrement of the counter.
 unfoldable pub descend : State → ℕ → State
@@ -39,16 +41,16 @@ descend s p =
     update p (claimed (side v (c .answer))) (withCounter v (c .word) s)
 
 -- Leaf j has segments j·g to j·g + g - 1; node L + j is leaf j.
-abbrev pub segmentOf : State → Process → ℕ
-segmentOf s h = (h .node - s .leaves) * s .segments + h .segment
+abbrev pub segmentOf : Setup → Process → ℕ
+segmentOf c h = (h .node - c .leaves) * c .segments + h .segment
 
 -- At leaf j: set_first_zero on segment word r = j·g + segment.
 unfoldable pub probe : State → ℕ → State
 probe s p =
     let h = processAt s p in
-    let r : ℕ = segmentOf s h in
-    let w = setFirstZero (s .bits) (wordAt s r) in
-    update p (claimed (outcome (s .segments) (s .bits) r (h .segment) (w .answer))) (withWord r (w .word) s)
+    let r : ℕ = segmentOf (s .setup) h in
+    let w = setFirstZero (s .setup .bits) (wordAt s r) in
+    update p (claimed (outcome (s .setup) r (h .segment) (w .answer))) (withWord r (w .word) s)
 
 unfoldable pub getnameStep : State → ℕ → State
-getnameStep s p = cond (ltb (processAt s p .node) (s .leaves)) (descend s p) (probe s p)
+getnameStep s p = cond (ltb (processAt s p .node) (s .setup .leaves)) (descend s p) (probe s p)

@@ -14,8 +14,9 @@ use Rattle.machine.specs.Putname.{putnameStep}
 use Rattle.machine.specs.Range.{inRange}
 use Rattle.machine.specs.Room.{enterRoom, getnameRoom, putnameRoom}
 use Rattle.machine.specs.Setup.{isLeaves, setupAnswer, height}
-use Rattle.machine.specs.State.{done, depth, setupOf, processAt, counterAt, wordAt, fresh, blank, setup, Sized}
+use Rattle.machine.specs.State.{done, depth, processAt, counterAt, wordAt, fresh, blank, setup, Sized}
 use Rattle.machine.specs.Touches.{Touches, Alike, Same}
+use Rattle.machine.specs.declared.Setup.{Setup}
 use Rattle.machine.specs.declared.State.{State}
 
 pub record Laws : Type 0 where
@@ -35,12 +36,12 @@ pub record Laws : Type 0 where
   pub clr-same : (w i : ℕ) → bit (clrBit w i) i ≡ 0
   pub clr-other : (w i j : ℕ) → j ≢ i → bit (clrBit w i) j ≡ bit w j
   -- a setup answers 0 or its refusal's number; it gives the fresh state or, refused, the blank one
-  pub setup-answer : (n l g b : ℕ) → setup n l g b .answer ≡ setupAnswer n l g b
-  pub accepted-setup : (n l g b : ℕ) → setupAnswer n l g b ≡ 0 → setup n l g b ≡ done 0 (fresh n l g b)
-  pub refused-setup : (n l g b : ℕ) → setupAnswer n l g b ≢ 0 → setup n l g b ≡ done (setupAnswer n l g b) blank
+  pub setup-answer : (c : Setup) → setup c .answer ≡ setupAnswer c
+  pub accepted-setup : (c : Setup) → setupAnswer c ≡ 0 → setup c ≡ done 0 (fresh c)
+  pub refused-setup : (c : Setup) → setupAnswer c ≢ 0 → setup c ≡ done (setupAnswer c) blank
   -- the fresh state of every accepted setup is in range, its arrays of their lengths; the blank state is not in range
-  pub fresh-state : (n l g b : ℕ) → setupAnswer n l g b ≡ 0 → inRange (fresh n l g b) ≡ true
-  pub fresh-lengths : (n l g b : ℕ) → Sized (fresh n l g b)
+  pub fresh-state : (c : Setup) → setupAnswer c ≡ 0 → inRange (fresh c) ≡ true
+  pub fresh-lengths : (c : Setup) → Sized (fresh c)
   pub blank-state : inRange blank ≡ false
   -- an accepted event keeps a state in range; a refused one keeps the state itself; no event changes a length
   pub accepted : (s : State) (kind p : ℕ) → event s kind p .answer ≡ 0 → inRange (event s kind p .state) ≡ true
@@ -49,26 +50,26 @@ pub record Laws : Type 0 where
   -- 15 for the state, 12, 6, in that order
   pub state-15 : (s : State) (kind p : ℕ) → inRange s ≡ false → event s kind p ≡ done 15 s
   pub kind-12 : (s : State) (kind p : ℕ) → inRange s ≡ true → 2 < kind → event s kind p ≡ done 12 s
-  pub stranger-6 : (s : State) (kind p : ℕ) → inRange s ≡ true → kind ≤ 2 → s .processes ≤ p → event s kind p ≡ done 6 s
+  pub stranger-6 : (s : State) (kind p : ℕ) → inRange s ≡ true → kind ≤ 2 → s .setup .processes ≤ p → event s kind p ≡ done 6 s
   -- an event touches its own process's record and at most one shared place
   pub one-place : (s : State) (kind p : ℕ) → Touches s p (event s kind p .state)
   -- so it changes no other process's record, no number of the setup, and no place that N, L and g leave unused
   pub others : (s : State) (kind p q : ℕ) → q ≢ p → processAt (event s kind p .state) q ≡ processAt s q
-  pub setup-kept : (s : State) (kind p : ℕ) → setupOf (event s kind p .state) ≡ setupOf s
-  pub unused-processes : (s : State) (kind p q : ℕ) → s .processes ≤ q → processAt (event s kind p .state) q ≡ processAt s q
-  pub unused-counters : (s : State) (kind p v : ℕ) → (0 < v → v < s .leaves → ⊥)
+  pub setup-kept : (s : State) (kind p : ℕ) → event s kind p .state .setup ≡ s .setup
+  pub unused-processes : (s : State) (kind p q : ℕ) → s .setup .processes ≤ q → processAt (event s kind p .state) q ≡ processAt s q
+  pub unused-counters : (s : State) (kind p v : ℕ) → (0 < v → v < s .setup .leaves → ⊥)
       → counterAt (event s kind p .state) v ≡ counterAt s v
-  pub unused-words : (s : State) (kind p r : ℕ) → s .leaves * s .segments ≤ r → wordAt (event s kind p .state) r ≡ wordAt s r
+  pub unused-words : (s : State) (kind p r : ℕ) → s .setup .leaves * s .setup .segments ≤ r → wordAt (event s kind p .state) r ≡ wordAt s r
   -- nor is such a place read: two states that differ there alone get one answer, and differ there alone afterwards
   pub unread : {s t : State} → Alike s t → (kind p : ℕ) → Same (event s kind p) (event t kind p)
   -- an accepted request counts steps from 0 again; the queue's head leaves and the rest move up
   pub request-resets : (s : State) (p : ℕ) → Sized s → event s 0 p .answer ≡ 0 → processAt (event s 0 p .state) p .steps ≡ 0
   pub head-first : (s : State) (i : ℕ) → 0 < s .queued → getD (headGone s .queue) i 0 ≡ getD (s .queue) (suc i) 0
   -- a turn would leave a range where the gate word, the queue, the steps or a counter has no room, and nowhere else
-  pub enter-15 : (s : State) (p : ℕ) → inRange s ≡ true → p < s .processes → inRange (enter s p) ≡ enterRoom s
-  pub await-15 : (s : State) (p : ℕ) → inRange s ≡ true → p < s .processes → inRange (await s p) ≡ true
-  pub getname-15 : (s : State) (p : ℕ) → Sized s → inRange s ≡ true → p < s .processes → inRange (getnameStep s p) ≡ getnameRoom s p
-  pub putname-15 : (s : State) (p : ℕ) → Sized s → inRange s ≡ true → p < s .processes → inRange (putnameStep s p) ≡ putnameRoom s p
+  pub enter-15 : (s : State) (p : ℕ) → inRange s ≡ true → p < s .setup .processes → inRange (enter s p) ≡ enterRoom s
+  pub await-15 : (s : State) (p : ℕ) → inRange s ≡ true → p < s .setup .processes → inRange (await s p) ≡ true
+  pub getname-15 : (s : State) (p : ℕ) → Sized s → inRange s ≡ true → p < s .setup .processes → inRange (getnameStep s p) ≡ getnameRoom s p
+  pub putname-15 : (s : State) (p : ℕ) → Sized s → inRange s ≡ true → p < s .setup .processes → inRange (putnameStep s p) ≡ putnameRoom s p
   -- running a list is running its parts in turn, and an even list of bytes is the events of its parts
   pub parts : (s : State) (es fs : List Event) → after s (es ++ fs) ≡ after (after s es) fs
   pub parts-answers : (s : State) (es fs : List Event) → answers s (es ++ fs) ≡ answers s es ++ answers (after s es) fs

@@ -2,9 +2,11 @@
 -- Touches are what the laws are said with, and Runs what the computed runs are; Laws, Worked and Controls are what is proved of them.
 pub mod Below
 pub mod Check
+pub mod Answer
 pub mod Setup
 pub mod Operations
 pub mod Stage
+pub mod Kind
 pub mod State
 pub mod Range
 pub mod Gate

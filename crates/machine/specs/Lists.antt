@@ -4,6 +4,7 @@ use mathlib.Core.List.{List, [], _∷_, _++_}
 use Prim.Native.Nat.{ℕ, _*_, _/_, _%_}
 use lib.Dec.{leb, eqb}
 use lib.ListN.{length, drop}
+use Rattle.machine.specs.Answer as answer
 use Rattle.machine.specs.Check.{Check, check, checked}
 use Rattle.machine.specs.Event.{event}
 use Rattle.machine.specs.Range.{inRange}
@@ -38,7 +39,7 @@ answers s (e ∷ es) = eventDone s e .answer ∷ answers (eventDone s e .state) 
 -- The journal takes four bytes for each event: answer, then stage, name and steps after it. For answers 12, 6 and 15 those
 -- three bytes are 255.
 abbrev pub showsNone : ℕ → Bool
-showsNone a = eqb a 12 || eqb a 6 || eqb a 15
+showsNone a = eqb a answer.kind || eqb a answer.stranger || eqb a answer.brokenState
 
 abbrev pub entryBytes : ℕ → Process → List ℕ
 entryBytes a h = cond (showsNone a) (a ∷ 255 ∷ 255 ∷ 255 ∷ []) (a ∷ h .stage ∷ h .name ∷ h .steps ∷ [])
@@ -61,11 +62,14 @@ written s bytes lent = journal s (eventsOf bytes) ++ drop (journalLength bytes) 
 -- A list: 14, 13, 15 for the state, then its events.
 abbrev pub runChecks : State → List ℕ → List ℕ → List Check
 runChecks s bytes lent =
-    check 14 (eqb (length bytes % 2) 0) ∷ check 13 (leb (journalLength bytes) (length lent)) ∷ check 15 (inRange s) ∷ []
+    check answer.odd (eqb (length bytes % 2) 0)
+    ∷ check answer.short (leb (journalLength bytes) (length lent))
+    ∷ check answer.brokenState (inRange s)
+    ∷ []
 
 -- the answer and the state; a refused list gives the state it was lent
 unfoldable pub run : State → List ℕ → List ℕ → Done
-run s bytes lent = checked (runChecks s bytes lent) (λ a. done a s) (done 0 (after s (eventsOf bytes)))
+run s bytes lent = checked (runChecks s bytes lent) (λ a. done a s) (done answer.accepted (after s (eventsOf bytes)))
 
 -- the lent journal afterwards: a refused list writes nothing
 unfoldable pub runJournal : State → List ℕ → List ℕ → List ℕ

@@ -11,8 +11,8 @@ use Rattle.machine.specs.declared.State.{State}
 unfoldable pub giveBack : State → ℕ → State
 giveBack s p =
     let m : ℕ = processAt s p .name in
-    let r : ℕ = m / s .bits in
-    update p (withName none) (withWord r (clrBit (wordAt s r) (m % s .bits)) s)
+    let r : ℕ = m / s .setup .bits in
+    update p (withName none) (withWord r (clrBit (wordAt s r) (m % s .setup .bits)) s)
 
 -- With no name, node v above 1: if v is even, the counter of v/2 rises by 1; the node becomes v div 2.
 unfoldable pub climb : State → ℕ → State

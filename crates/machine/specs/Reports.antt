@@ -4,6 +4,7 @@ use Prim.Native.Nat.{ℕ}
 use lib.Dec.{leb}
 use lib.IntN.{ℤ, pos, negsuc, negℤ}
 use lib.ListN.{length, take, drop}
+use Rattle.machine.specs.Answer as answer
 use Rattle.machine.specs.Check.{Check, check, checked}
 use Rattle.machine.specs.Range.{inRange}
 use Rattle.machine.specs.declared.Process.{Process}
@@ -20,21 +21,23 @@ positivePart (negsuc n) = 0
 -- or 0 when A is positive). Gate report: 15 alone; report figures 0.
 unfoldable pub gateReport : State → Report
 gateReport s =
-    checked (check 15 (inRange s) ∷ []) (λ a. record { answer = a; free = 0; queued = 0 })
-    (record { answer = 0; free = positivePart (s .gate); queued = positivePart (negℤ (s .gate)) })
+    checked (check answer.brokenState (inRange s) ∷ []) (λ a. record { answer = a; free = 0; queued = 0 })
+    (record { answer = answer.accepted; free = positivePart (s .gate); queued = positivePart (negℤ (s .gate)) })
 
 abbrev pub statusOf : Process → Status
 statusOf h = record { stage = h .stage; name = h .name; steps = h .steps }
 
 -- Roll: 15, 13.
 abbrev pub statusChecks : State → List Status → List Check
-statusChecks s records = check 15 (inRange s) ∷ check 13 (leb (s .processes) (length records)) ∷ []
+statusChecks s records =
+    check answer.brokenState (inRange s) ∷ check answer.short (leb (s .setup .processes) (length records)) ∷ []
 
 unfoldable pub statusAnswer : State → List Status → ℕ
-statusAnswer s records = checked (statusChecks s records) (λ a. a) 0
+statusAnswer s records = checked (statusChecks s records) (λ a. a) answer.accepted
 
 -- One record for each process in rising order, with stage, name and steps; records from N on are untouched. A refused one
 -- writes nothing.
-unfoldable pub statusList : State → List Status → List Status
-statusList s records =
-    checked (statusChecks s records) (λ a. records) (map statusOf (take (s .processes) (s .process)) ++ drop (s .processes) records)
+unfoldable pub statusRecords : State → List Status → List Status
+statusRecords s records =
+    checked (statusChecks s records) (λ a. records)
+    (map statusOf (take (s .setup .processes) (s .process)) ++ drop (s .setup .processes) records)

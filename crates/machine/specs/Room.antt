@@ -4,7 +4,8 @@ use Prim.Native.Nat.{ℕ, _/_, _%_}
 use lib.Dec.{eqb, ltb}
 use lib.IntN.{ℤ, pos, negsuc}
 use Rattle.machine.specs.Gate.{above0}
-use Rattle.machine.specs.State.{none, processAt, counterAt, namesOf, freshCounter}
+use Rattle.machine.specs.Setup.{names}
+use Rattle.machine.specs.State.{none, processAt, counterAt, freshCounter}
 use Rattle.machine.specs.declared.State.{State}
 
 -- A falls by 1 and stays at -64 or above; it rises by 1 and stays at k or below
@@ -28,11 +29,11 @@ getnameRoom s p = ltb (processAt s p .steps) 255
 abbrev pub climbRoom : State → ℕ → Bool
 climbRoom s p =
     let u : ℕ = processAt s p .node / 2 in
-    cond (eqb (processAt s p .node % 2) 0) (ltb (counterAt s u) (freshCounter (namesOf s) u)) true
+    cond (eqb (processAt s p .node % 2) 0) (ltb (counterAt s u) (freshCounter (s .setup) u)) true
 
 -- stage 5: a name is always given back; a counter must have room, and at node 1 the gate word
 abbrev pub putnameRoom : State → ℕ → Bool
 putnameRoom s p =
     cond (eqb (processAt s p .name) none)
-    (cond (ltb 1 (processAt s p .node)) (climbRoom s p) (canRise (namesOf s) (s .gate)))
+    (cond (ltb 1 (processAt s p .node)) (climbRoom s p) (canRise (names (s .setup)) (s .gate)))
     true

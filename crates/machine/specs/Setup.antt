@@ -3,18 +3,17 @@ use mathlib.Core.Bool.{Bool, cond, _&&_, _||_}
 use mathlib.Core.List.{List, [], _∷_}
 use Prim.Native.Nat.{ℕ, _*_}
 use lib.Dec.{leb, ltb, eqb}
+use Rattle.machine.specs.Answer as answer
 use Rattle.machine.specs.Check.{Check, check, checked}
+use Rattle.machine.specs.declared.Setup.{Setup}
 
--- Four numbers: processes (handsets) N, leaves L, segments (rows) in a leaf g, bits in a segment b.
-pub record Setup : Type 0 where
-  pub processes : ℕ
-  pub leaves : ℕ
-  pub segments : ℕ
-  pub bits : ℕ
+-- Four numbers: processes (handsets) N, leaves L, segments (rows) in a leaf g, bits in a segment b. src/lib.rt declares the record.
+abbrev pub plain : ℕ → ℕ → ℕ → ℕ → Setup
+plain n l g b = record { processes = n; leaves = l; segments = g; bits = b }
 
 -- Names (document 01: pads) k = L·g·b.
-abbrev pub names : ℕ → ℕ → ℕ → ℕ
-names l g b = l * g * b
+abbrev pub names : Setup → ℕ
+names c = c .leaves * c .segments * c .bits
 
 abbrev pub within : ℕ → ℕ → ℕ → Bool
 within low high n = leb low n && leb n high
@@ -25,18 +24,18 @@ isLeaves l = eqb l 1 || eqb l 2 || eqb l 4 || eqb l 8 || eqb l 16
 
 -- N is 1 to 64; L as above; g and b are 1 to 8; k is at most 64.
 -- Setup checks 1 to 5 in that order.
-abbrev pub setupChecks : ℕ → ℕ → ℕ → ℕ → List Check
-setupChecks n l g b =
-    check 1 (within 1 64 n)
-    ∷ check 2 (isLeaves l)
-    ∷ check 3 (within 1 8 g)
-    ∷ check 4 (within 1 8 b)
-    ∷ check 5 (leb (names l g b) 64)
+abbrev pub setupChecks : Setup → List Check
+setupChecks c =
+    check answer.processes (within 1 64 (c .processes))
+    ∷ check answer.leaves (isLeaves (c .leaves))
+    ∷ check answer.segments (within 1 8 (c .segments))
+    ∷ check answer.bits (within 1 8 (c .bits))
+    ∷ check answer.names (leb (names c) 64)
     ∷ []
 
 -- 0, or the number of the refusal
-unfoldable pub setupAnswer : ℕ → ℕ → ℕ → ℕ → ℕ
-setupAnswer n l g b = checked (setupChecks n l g b) (λ a. a) 0
+unfoldable pub setupAnswer : Setup → ℕ
+setupAnswer c = checked (setupChecks c) (λ a. a) answer.accepted
 
 -- how often a number from 1 to 31 can be halved before it is 1
 unfoldable pub log2 : ℕ → ℕ

@@ -9,9 +9,11 @@ use lib.IntN.{ℤ, pos}
 use lib.ListN.{length, getD, set, replicate}
 use Rattle.machine.specs.Below.{tabulate}
 use Rattle.machine.specs.Check.{checked}
-use Rattle.machine.specs.Setup.{Setup, names, setupChecks, log2}
+use Rattle.machine.specs.Answer.{accepted}
+use Rattle.machine.specs.Setup.{plain, names, setupChecks, log2}
 use Rattle.machine.specs.Stage.{remainder}
 use Rattle.machine.specs.declared.Process.{Process}
+use Rattle.machine.specs.declared.Setup.{Setup}
 use Rattle.machine.specs.declared.State.{State}
 use Rattle.machine.specs.declared.Done.{Done}
 
@@ -30,21 +32,25 @@ noProcess = record { stage = 0; node = 0; segment = 0; name = 0; steps = 0 }
 abbrev pub freshProcess : Process
 freshProcess = record { stage = remainder; node = 1; segment = 0; name = none; steps = 0 }
 
--- one number of a process changed
+-- a process with other numbers; every setter of one number is made of this
+abbrev pub renumbered : ℕ → ℕ → ℕ → ℕ → ℕ → Process → Process
+renumbered stage node segment name steps h =
+    record { stage = stage; node = node; segment = segment; name = name; steps = steps }
+
 abbrev pub withStage : ℕ → Process → Process
-withStage n h = record { stage = n; node = h .node; segment = h .segment; name = h .name; steps = h .steps }
+withStage n h = renumbered n (h .node) (h .segment) (h .name) (h .steps) h
 
 abbrev pub withNode : ℕ → Process → Process
-withNode n h = record { stage = h .stage; node = n; segment = h .segment; name = h .name; steps = h .steps }
+withNode n h = renumbered (h .stage) n (h .segment) (h .name) (h .steps) h
 
 abbrev pub withSegment : ℕ → Process → Process
-withSegment n h = record { stage = h .stage; node = h .node; segment = n; name = h .name; steps = h .steps }
+withSegment n h = renumbered (h .stage) (h .node) n (h .name) (h .steps) h
 
 abbrev pub withName : ℕ → Process → Process
-withName n h = record { stage = h .stage; node = h .node; segment = h .segment; name = n; steps = h .steps }
+withName n h = renumbered (h .stage) (h .node) (h .segment) n (h .steps) h
 
 abbrev pub withSteps : ℕ → Process → Process
-withSteps n h = record { stage = h .stage; node = h .node; segment = h .segment; name = h .name; steps = n }
+withSteps n h = renumbered (h .stage) (h .node) (h .segment) (h .name) n h
 
 -- what stands at a place
 abbrev pub processAt : State → ℕ → Process
@@ -56,104 +62,33 @@ counterAt s v = getD (s .counters) v 0
 abbrev pub wordAt : State → ℕ → ℕ
 wordAt s r = getD (s .words) r 0
 
--- the setup's four numbers, as a state carries them
-abbrev pub setupOf : State → Setup
-setupOf s = record { processes = s .processes; leaves = s .leaves; segments = s .segments; bits = s .bits }
-
-abbrev pub namesOf : State → ℕ
-namesOf s = names (s .leaves) (s .segments) (s .bits)
-
--- one part of a state changed
-abbrev pub withGate : ℤ → State → State
-withGate a s =
+-- a state with another gate word, queue and arrays; every setter of one part is made of this
+abbrev pub rebuilt : ℤ → ℕ → List ℕ → List ℕ → List ℕ → List Process → State → State
+rebuilt gate queued queue counters words process s =
     record {
-      processes = s .processes;
-      leaves = s .leaves;
-      segments = s .segments;
-      bits = s .bits;
-      gate = a;
-      queued = s .queued;
-      queue = s .queue;
-      counters = s .counters;
-      words = s .words;
-      process = s .process;
+      setup = s .setup;
+      gate = gate;
+      queued = queued;
+      queue = queue;
+      counters = counters;
+      words = words;
+      process = process;
     }
+
+abbrev pub withGate : ℤ → State → State
+withGate a s = rebuilt a (s .queued) (s .queue) (s .counters) (s .words) (s .process) s
 
 abbrev pub withQueue : ℕ → List ℕ → State → State
-withQueue n q s =
-    record {
-      processes = s .processes;
-      leaves = s .leaves;
-      segments = s .segments;
-      bits = s .bits;
-      gate = s .gate;
-      queued = n;
-      queue = q;
-      counters = s .counters;
-      words = s .words;
-      process = s .process;
-    }
+withQueue n q s = rebuilt (s .gate) n q (s .counters) (s .words) (s .process) s
 
 abbrev pub withCounter : ℕ → ℕ → State → State
-withCounter v c s =
-    record {
-      processes = s .processes;
-      leaves = s .leaves;
-      segments = s .segments;
-      bits = s .bits;
-      gate = s .gate;
-      queued = s .queued;
-      queue = s .queue;
-      counters = set (s .counters) v c;
-      words = s .words;
-      process = s .process;
-    }
+withCounter v n s = rebuilt (s .gate) (s .queued) (s .queue) (set (s .counters) v n) (s .words) (s .process) s
 
 abbrev pub withWord : ℕ → ℕ → State → State
-withWord r w s =
-    record {
-      processes = s .processes;
-      leaves = s .leaves;
-      segments = s .segments;
-      bits = s .bits;
-      gate = s .gate;
-      queued = s .queued;
-      queue = s .queue;
-      counters = s .counters;
-      words = set (s .words) r w;
-      process = s .process;
-    }
+withWord r w s = rebuilt (s .gate) (s .queued) (s .queue) (s .counters) (set (s .words) r w) (s .process) s
 
 abbrev pub withProcess : ℕ → Process → State → State
-withProcess p h s =
-    record {
-      processes = s .processes;
-      leaves = s .leaves;
-      segments = s .segments;
-      bits = s .bits;
-      gate = s .gate;
-      queued = s .queued;
-      queue = s .queue;
-      counters = s .counters;
-      words = s .words;
-      process = set (s .process) p h;
-    }
-
--- other arrays in the place of those for counters, segment words and processes
-abbrev pub withArrays : List ℕ → List ℕ → List Process → State → State
-withArrays cs ws ps s =
-    record {
-      processes = s .processes;
-      leaves = s .leaves;
-      segments = s .segments;
-      bits = s .bits;
-      gate = s .gate;
-      queued = s .queued;
-      queue = s .queue;
-      counters = cs;
-      words = ws;
-      process = ps;
-    }
+withProcess p h s = rebuilt (s .gate) (s .queued) (s .queue) (s .counters) (s .words) (set (s .process) p h) s
 
 -- the record of process p changed by f
 abbrev pub update : ℕ → (Process → Process) → State → State
@@ -164,41 +99,35 @@ abbrev pub depth : ℕ → ℕ
 depth v = log2 v
 
 -- A counter's fresh value k / 2^(d+1), where d is the node's depth.
-abbrev pub freshCounter : ℕ → ℕ → ℕ
-freshCounter k v = k / 2 ^ (depth v + 1)
+abbrev pub freshCounter : Setup → ℕ → ℕ
+freshCounter c v = names c / 2 ^ (depth v + 1)
 
 -- Nodes below L carry a counter (nodes are 1 to 2L - 1); places that L leaves unused are fresh 0.
-unfoldable pub freshCounterAt : ℕ → ℕ → ℕ → ℕ
-freshCounterAt l k v = cond (ltb 0 v && ltb v l) (freshCounter k v) 0
+unfoldable pub freshCounterAt : Setup → ℕ → ℕ
+freshCounterAt c v = cond (ltb 0 v && ltb v (c .leaves)) (freshCounter c v) 0
 
 -- places that N leaves unused are fresh 0
-unfoldable pub freshProcessAt : ℕ → ℕ → Process
-freshProcessAt n p = cond (ltb p n) freshProcess noProcess
+unfoldable pub freshProcessAt : Setup → ℕ → Process
+freshProcessAt c p = cond (ltb p (c .processes)) freshProcess noProcess
 
 -- Gate word A fresh k; the queue fresh empty; segment words (row words) fresh 0.
-unfoldable pub fresh : ℕ → ℕ → ℕ → ℕ → State
-fresh n l g b =
+unfoldable pub fresh : Setup → State
+fresh c =
     record {
-      processes = n;
-      leaves = l;
-      segments = g;
-      bits = b;
-      gate = pos (names l g b);
+      setup = c;
+      gate = pos (names c);
       queued = 0;
       queue = replicate 64 0;
-      counters = tabulate 16 (freshCounterAt l (names l g b));
+      counters = tabulate 16 (freshCounterAt c);
       words = replicate 64 0;
-      process = tabulate 64 (freshProcessAt n);
+      process = tabulate 64 (freshProcessAt c);
     }
 
 -- The blank state, every number 0.
 unfoldable pub blank : State
 blank =
     record {
-      processes = 0;
-      leaves = 0;
-      segments = 0;
-      bits = 0;
+      setup = plain 0 0 0 0;
       gate = pos 0;
       queued = 0;
       queue = replicate 64 0;
@@ -208,8 +137,8 @@ blank =
     }
 
 -- A refused setup gives the number and the blank state.
-unfoldable pub setup : ℕ → ℕ → ℕ → ℕ → Done
-setup n l g b = checked (setupChecks n l g b) (λ a. done a blank) (done 0 (fresh n l g b))
+unfoldable pub setup : Setup → Done
+setup c = checked (setupChecks c) (λ a. done a blank) (done accepted (fresh c))
 
 -- The arrays have the lengths that the record declares: a queue of 64, counters for 16 nodes, 64 segment words, 64 processes.
 pub record Sized (s : State) : Type 0 where

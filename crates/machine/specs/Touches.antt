@@ -4,9 +4,10 @@ use mathlib.Core.List.{List}
 use Prim.Native.Nat.{ℕ, _*_, _<_}
 use lib.IntN.{ℤ}
 use lib.ListN.{length, getD}
-use Rattle.machine.specs.State.{noProcess, withGate, withQueue, withCounter, withWord, withProcess, withArrays}
+use Rattle.machine.specs.State.{noProcess, withGate, withQueue, withCounter, withWord, withProcess, rebuilt}
 use Rattle.machine.specs.declared.Done.{Done}
 use Rattle.machine.specs.declared.Process.{Process}
+use Rattle.machine.specs.declared.Setup.{Setup}
 use Rattle.machine.specs.declared.State.{State}
 
 -- An event of process p takes s to a state in which nothing changed, or its own record alone, or that and one shared place that
@@ -16,22 +17,35 @@ pub data Touches (s : State) (p : ℕ) : State → Type 0 where
   own : (h : Process) → Touches s p (withProcess p h s)
   gate : (h : Process) (a : ℤ) (n : ℕ) (q : List ℕ) → (length (s .queue) ≡ 64 → length q ≡ 64)
       → Touches s p (withProcess p h (withQueue n q (withGate a s)))
-  counter : (h : Process) (v c : ℕ) → 0 < v → v < s .leaves → Touches s p (withProcess p h (withCounter v c s))
-  word : (h : Process) (r w : ℕ) → r < s .leaves * s .segments → Touches s p (withProcess p h (withWord r w s))
+  counter : (h : Process) (v c : ℕ) → 0 < v → v < s .setup .leaves → Touches s p (withProcess p h (withCounter v c s))
+  word : (h : Process) (r w : ℕ) → r < s .setup .leaves * s .setup .segments → Touches s p (withProcess p h (withWord r w s))
 
 -- two lists of one length that agree at the places in use
 pub record Agrees {A : Type 0} (d : A) (used : ℕ → Type 0) (l l′ : List A) : Type 0 where
   pub at : (i : ℕ) → used i → getD l′ i d ≡ getD l i d
   pub size : length l′ ≡ length l
 
--- States that differ only in places that N, L and g leave unused: t has other arrays than s, which agree with those of s at every
--- place that the setup uses.
+-- the arrays in which a setup may leave places unused; those of a state, and a state with others
+pub record Arrays : Type 0 where
+  pub counters : List ℕ
+  pub words : List ℕ
+  pub process : List Process
+
+abbrev pub arraysOf : State → Arrays
+arraysOf s = record { counters = s .counters; words = s .words; process = s .process }
+
+abbrev pub withArrays : Arrays → State → State
+withArrays a s = rebuilt (s .gate) (s .queued) (s .queue) (a .counters) (a .words) (a .process) s
+
+-- arrays that agree at every place that a setup uses
+pub record Fits (c : Setup) (a a′ : Arrays) : Type 0 where
+  pub counters : Agrees 0 (λ v. (0 < v) × (v < c .leaves)) (a .counters) (a′ .counters)
+  pub words : Agrees 0 (λ r. r < c .leaves * c .segments) (a .words) (a′ .words)
+  pub process : Agrees noProcess (λ p. p < c .processes) (a .process) (a′ .process)
+
+-- States that differ only in places that N, L and g leave unused: t has other arrays than s, which agree there with those of s.
 pub data Alike (s : State) : State → Type 0 where
-  alike : (cs ws : List ℕ) (ps : List Process)
-      → Agrees 0 (λ v. (0 < v) × (v < s .leaves)) (s .counters) cs
-      → Agrees 0 (λ r. r < s .leaves * s .segments) (s .words) ws
-      → Agrees noProcess (λ p. p < s .processes) (s .process) ps
-      → Alike s (withArrays cs ws ps s)
+  alike : (a : Arrays) → Fits (s .setup) (arraysOf s) a → Alike s (withArrays a s)
 
 -- one answer, and states that are alike
 pub record Same (d e : Done) : Type 0 where

@@ -6,7 +6,7 @@ use lib.ListN.{take}
 use Rattle.machine.specs.Lists.{Event, eventsOf, after, journal}
 use Rattle.machine.specs.Operations.{setFirstZero, boundedDecrement}
 use Rattle.machine.specs.Runs.{ask, turn, finish, line}
-use Rattle.machine.specs.Setup.{names}
+use Rattle.machine.specs.Setup.{plain, names}
 use Rattle.machine.specs.State.{done, none, processAt, fresh, blank, setup}
 use Rattle.machine.specs.declared.Applied.{Applied}
 
@@ -32,22 +32,23 @@ pub record Worked : Type 0 where
   pub p3 : boundedDecrement 0 ≡ applied 0 0
   pub p4 : boundedDecrement 2 ≡ applied 2 1
   -- setup 64, 16, 2, 2 is accepted, k = 64; 64, 16, 2, 3 gets 5; 65, 16, 2, 2 gets 1; 64, 3, 2, 2 gets 2
-  pub p5 : (setup 64 16 2 2 ≡ done 0 (fresh 64 16 2 2)) × (names 16 2 2 ≡ 64)
-  pub p6 : setup 64 16 2 3 ≡ done 5 blank
-  pub p7 : setup 65 16 2 2 ≡ done 1 blank
-  pub p8 : setup 64 3 2 2 ≡ done 2 blank
+  pub p5 : (setup (plain 64 16 2 2) ≡ done 0 (fresh (plain 64 16 2 2))) × (names (plain 64 16 2 2) ≡ 64)
+  pub p6 : setup (plain 64 16 2 3) ≡ done 5 blank
+  pub p7 : setup (plain 65 16 2 2) ≡ done 1 blank
+  pub p8 : setup (plain 64 3 2 2) ≡ done 2 blank
   -- N = L = 2, g = b = 1: process 0 wins name 0 with steps 2; process 1, while 0 holds, goes right (to node 3) and wins name 1 with steps 2
-  pub p9 : journal (fresh 2 2 1 1) p9-events
+  pub p9 : journal (fresh (plain 2 2 1 1)) p9-events
       ≡ line 0 1 none 0 ++ line 0 3 none 0 ++ line 0 3 none 1 ++ line 0 4 0 2
       ++ line 0 1 none 0 ++ line 0 3 none 0 ++ line 0 3 none 1 ++ line 0 4 1 2
-  pub p9-right : processAt (after (fresh 2 2 1 1) (take 7 p9-events)) 1 .node ≡ 3
-  -- N = 2, L = 1, g = 2, b = 1: process 0 wins name 0 with steps 1; process 1, while 0 holds, finds segment 0 full and wins name 1 with steps 2
-  pub p10 : journal (fresh 2 1 2 1) p10-events
+  pub p9-right : processAt (after (fresh (plain 2 2 1 1)) (take 7 p9-events)) 1 .node ≡ 3
+  -- N = 2, L = 1, g = 2, b = 1: process 0 wins name 0 with steps 1; process 1, while 0 holds, finds segment 0 full and wins name 1
+  -- with steps 2
+  pub p10 : journal (fresh (plain 2 1 2 1)) p10-events
       ≡ line 0 1 none 0 ++ line 0 3 none 0 ++ line 0 4 0 1
       ++ line 0 1 none 0 ++ line 0 3 none 0 ++ line 0 3 none 1 ++ line 0 4 1 2
-  pub p10-full : processAt (after (fresh 2 1 2 1) (take 6 p10-events)) 1 .segment ≡ 1
+  pub p10-full : processAt (after (fresh (plain 2 1 2 1)) (take 6 p10-events)) 1 .segment ≡ 1
   -- setup 2, 1, 1, 1: the program's list
-  pub p11 : journal (fresh 2 1 1 1) p11-events
+  pub p11 : journal (fresh (plain 2 1 1 1)) p11-events
       ≡ line 0 1 none 0
       ++ line 0 3 none 0
       ++ line 0 4 0 1

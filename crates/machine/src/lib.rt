@@ -1,6 +1,21 @@
 // The records of the machine, document 01's section State. What an event does to them is said in specs/.
+pub mod answer;
+pub mod kind;
+pub mod stage;
 
-// One process (document 01: handset). `name` is 255 for none (pad); `steps` counts its getname steps (spent).
+// The name of a process that has none.
+pub const NO_NAME: u8 = 255;
+
+// What a setup is given: processes (document 01: handsets) N, leaves L, segments (rows) in a leaf g, bits in a segment b.
+#[repr(C)]
+pub struct Setup {
+    pub processes: u8,
+    pub leaves: u8,
+    pub segments: u8,
+    pub bits: u8,
+}
+
+// One process (document 01: handset). `name` (pad) is 255 for none; `steps` counts its getname steps (spent).
 #[repr(C)]
 pub struct Process {
     pub stage: u8,
@@ -10,14 +25,11 @@ pub struct Process {
     pub steps: u8,
 }
 
-// The setup's four numbers, the gate word with its queue, a counter for each node (place 0 is unused), a word for each
-// segment (document 01: row), and the processes.
+// The setup, the gate word with its queue, a counter for each node (place 0 is unused), a word for each segment (document 01: row),
+// and the processes.
 #[repr(C)]
 pub struct State {
-    pub processes: u8,
-    pub leaves: u8,
-    pub segments: u8,
-    pub bits: u8,
+    pub setup: Setup,
     pub gate: i8,
     pub queued: u8,
     pub queue: [u8; 64],
@@ -58,7 +70,7 @@ pub struct Report {
     pub queued: u8,
 }
 
-// One record of the status list (document 01: roll).
+// One status record (document 01: one line of the roll).
 #[repr(C)]
 pub struct Status {
     pub stage: u8,

@@ -1,44 +1,51 @@
 -- On a state in range an event of a known kind and process is done at its place: the machine's own test for 15 is the local one, by
 -- the laws of room, and a record or a word stored back as it was changes nothing. Assumes nothing.
-use mathlib.Core.Path.{_≡_, refl, sym, ap, _∙_}
-use mathlib.Core.Bool.{Bool, true, false, cond, _&&_, true≢false}
 use mathlib.Core.List.{List}
-use Prim.Native.Nat.{ℕ, zero, suc, _+_, _*_, _-_, _/_, _%_, _≤_, _<_}
+use Prim.Native.Nat.{ℕ, _/_, _%_, _≤_, _<_}
 use lib.Dec.{eqb, ltb}
 use lib.ListN.{getD, set}
 use lib.Seq.{set-getD}
-use borrow.Author.Tests.{le-leb, lt-ltb}
+use Rattle.machine.proofs.Rules.{_≡_, _∙_, sym, ap, refl, true, false, true≢false, cond, Bool, _&&_, lt-ltb, le-leb}
 use Rattle.machine.specs.Event.{refused, request, release, guarded, stages, stay, step, kinds, event}
 use Rattle.machine.specs.Gate.{above0, among, headGone, enter, await, leave}
-use Rattle.machine.specs.Getname.{descend, probe, getnameStep}
+use Rattle.machine.specs.Getname.{segmentOf, descend, probe, getnameStep}
 use Rattle.machine.specs.Putname.{giveBack, climb, putnameStep}
 use Rattle.machine.specs.Room.{canFall, canRise, climbRoom, putnameRoom}
+use Rattle.machine.specs.Setup.{names}
 use Rattle.machine.specs.Stage.{remainder, entry, working, putname}
-use Rattle.machine.specs.State.{done, none, noProcess, freshProcess, withStage, withNode, processAt, counterAt, wordAt, namesOf, freshCounter, withProcess, withCounter, withWord, withArrays, Sized}
+use Rattle.machine.specs.State.{done, none, noProcess, freshProcess, withStage, withNode, processAt, counterAt, wordAt, freshCounter, withProcess, withCounter, withWord, rebuilt, Sized}
 use Rattle.machine.specs.declared.Process.{Process}
+use Rattle.machine.specs.declared.Setup.{Setup}
 use Rattle.machine.specs.declared.State.{State}
+use Rattle.machine.proofs.Facts.Rows.{by-row}
 use Rattle.machine.proofs.Laws.Room.Gate.{above-falls, enter-room, await-room}
 use Rattle.machine.proofs.Laws.Room.Getname.{getname-room}
 use Rattle.machine.proofs.Laws.Room.Putname.{putname-room}
 use Rattle.machine.proofs.Ranges.{Ranges, in-range}
-use Rattle.operations.specs.Moves.{entered, enteredQueue, awaited, descended, probed, climbed, departed, departedQueue}
-use Rattle.operations.specs.Places.{getnamePlace, putnamePlace, stepPlace, placeOf, doneAt}
+use Rattle.gate.specs.Moves.{entered, enteredQueue, awaited, departed, departedQueue}
+use Rattle.operations.specs.Moves.{descended, probed, climbed}
+use Rattle.operations.specs.Places.{getnamePlace, putnamePlace, stagePlaces, stepPlace, kindPlaces, placeOf, doneAt}
 use Rattle.operations.specs.declared.place.Place.the-variants.{Own, Gate, Queue, Parent, Root}
 
-module _ (s : State) (z : Sized s) (k : Ranges s) (p : ℕ) (kp : p < s .processes) where
+module _ (s : State) (z : Sized s) (k : Ranges s) (p : ℕ) (kp : p < s .setup .processes) where
   abbrev h : Process
   h = processAt s p
 
-  -- the record stored back
-  self : withProcess p h s ≡ s
-  self = ap (λ (ps : List Process). withArrays (s .counters) (s .words) ps s) (set-getD (s .process) p noProcess)
+  abbrev c : Setup
+  c = s .setup
 
-  -- the record and a counter, or a word, stored back
+  -- the state with other arrays; each stored back as it was
+  abbrev over : List ℕ → List ℕ → List Process → State
+  over cs ws ps = rebuilt (s .gate) (s .queued) (s .queue) cs ws ps s
+
+  self : withProcess p h s ≡ s
+  self = ap (over (s .counters) (s .words)) (set-getD (s .process) p noProcess)
+
   counter-self : (v : ℕ) → withProcess p h (withCounter v (counterAt s v) s) ≡ s
-  counter-self v = ap (λ (cs : List ℕ). withArrays cs (s .words) (set (s .process) p h) s) (set-getD (s .counters) v 0) ∙ self
+  counter-self v = ap (λ (cs : List ℕ). over cs (s .words) (set (s .process) p h)) (set-getD (s .counters) v 0) ∙ self
 
   word-self : (r : ℕ) → withProcess p h (withWord r (wordAt s r) s) ≡ s
-  word-self r = ap (λ (ws : List ℕ). withArrays (s .counters) ws (set (s .process) p h) s) (set-getD (s .words) r 0) ∙ self
+  word-self r = ap (λ (ws : List ℕ). over (s .counters) ws (set (s .process) p h)) (set-getD (s .words) r 0) ∙ self
 
   stay-at : guarded stay s p ≡ doneAt (Own h 0) s p
   unfolding guarded doneAt
@@ -65,47 +72,49 @@ module _ (s : State) (z : Sized s) (k : Ranges s) (p : ℕ) (kp : p < s .process
       go true e = simp e (ap (done 0) (sym self))
       go false e = simp e
 
-  getname-at : guarded getnameStep s p ≡ doneAt (getnamePlace (s .leaves) (s .segments) h) s p
+  getname-at : guarded getnameStep s p ≡ doneAt (getnamePlace c h) s p
   unfolding guarded doneAt getnameStep descend probe descended probed
   getname-at =
-      rw (getname-room s p k kp (z .process)) (go (ltb (h .node) (s .leaves)) (ltb (h .steps) 255) refl refl)
+      rw (getname-room s p k kp (z .process)) (go (ltb (h .node) (s .setup .leaves)) (ltb (h .steps) 255) refl refl)
     where
-      go : (below room : Bool) → ltb (h .node) (s .leaves) ≡ below → ltb (h .steps) 255 ≡ room
-          → cond (ltb (h .steps) 255) (done 0 (getnameStep s p)) (done 15 s) ≡ doneAt (getnamePlace (s .leaves) (s .segments) h) s p
+      go : (below room : Bool) → ltb (h .node) (s .setup .leaves) ≡ below → ltb (h .steps) 255 ≡ room
+          → cond (ltb (h .steps) 255) (done 0 (getnameStep s p)) (done 15 s) ≡ doneAt (getnamePlace c h) s p
       go true true e f = simp (e, f)
       go true false e f = simp (e, f) (ap (done 15) (sym (counter-self (h .node))))
       go false true e f = simp (e, f)
-      go false false e f = simp (e, f) (ap (done 15) (sym (word-self ((h .node - s .leaves) * s .segments + h .segment))))
+      go false false e f = simp (e, f) (ap (done 15) (sym (word-self (segmentOf c h))))
 
   -- stage 5, by the tests in their order: a name; above node 1; from the left; and the room
-  leave-at : cond (canRise (namesOf s) (s .gate)) (done 0 (leave s p)) (done 15 s) ≡ doneAt Root s p
+  leave-at : cond (canRise (names c) (s .gate)) (done 0 (leave s p)) (done 15 s) ≡ doneAt Root s p
   unfolding doneAt leave headGone departed departedQueue
-  leave-at = go (canRise (namesOf s) (s .gate)) refl
+  leave-at = go (canRise (names c) (s .gate)) refl
     where
-      go : (t : Bool) → canRise (namesOf s) (s .gate) ≡ t → cond (canRise (namesOf s) (s .gate)) (done 0 (leave s p)) (done 15 s) ≡ doneAt Root s p
+      go : (t : Bool) → canRise (names c) (s .gate) ≡ t
+          → cond (canRise (names c) (s .gate)) (done 0 (leave s p)) (done 15 s) ≡ doneAt Root s p
       go true e = simp e
       go false e = simp e (ap (done 15) (sym self))
 
   climb-at : cond (climbRoom s p) (done 0 (climb s p)) (done 15 s)
       ≡ doneAt (cond (eqb (h .node % 2) 0) (Parent (h .node / 2)) (Own (withNode (h .node / 2) h) 0)) s p
   unfolding doneAt climb climbed
-  climb-at = go (eqb (h .node % 2) 0) (ltb (counterAt s u) (freshCounter (namesOf s) u)) refl refl
+  climb-at = go (eqb (h .node % 2) 0) (ltb (counterAt s u) (freshCounter c u)) refl refl
     where
       u : ℕ
       u = h .node / 2
 
-      go : (even room : Bool) → eqb (h .node % 2) 0 ≡ even → ltb (counterAt s u) (freshCounter (namesOf s) u) ≡ room
-          → cond (climbRoom s p) (done 0 (climb s p)) (done 15 s) ≡ doneAt (cond (eqb (h .node % 2) 0) (Parent u) (Own (withNode u h) 0)) s p
+      go : (even room : Bool) → eqb (h .node % 2) 0 ≡ even → ltb (counterAt s u) (freshCounter c u) ≡ room
+          → cond (climbRoom s p) (done 0 (climb s p)) (done 15 s)
+          ≡ doneAt (cond (eqb (h .node % 2) 0) (Parent u) (Own (withNode u h) 0)) s p
       go true true e f = simp (e, f)
       go true false e f = simp (e, f) (ap (done 15) (sym (counter-self u)))
       go false room e f = simp e
 
-  putname-at : guarded putnameStep s p ≡ doneAt (putnamePlace (s .bits) h) s p
+  putname-at : guarded putnameStep s p ≡ doneAt (putnamePlace c h) s p
   unfolding guarded putnameStep
   putname-at = rw (putname-room s p k kp z) (go (eqb (h .name) none) (ltb 1 (h .node)) refl refl)
     where
       go : (t up : Bool) → eqb (h .name) none ≡ t → ltb 1 (h .node) ≡ up
-          → cond (putnameRoom s p) (done 0 (putnameStep s p)) (done 15 s) ≡ doneAt (putnamePlace (s .bits) h) s p
+          → cond (putnameRoom s p) (done 0 (putnameStep s p)) (done 15 s) ≡ doneAt (putnamePlace c h) s p
       go true true e f = simp (e, f) climb-at
       go true false e f = simp (e, f) leave-at
       go false up e f = unfold giveBack doneAt in simp e
@@ -115,16 +124,11 @@ module _ (s : State) (z : Sized s) (k : Ranges s) (p : ℕ) (kp : p < s .process
   own-kept a = ap (done a) (sym self)
 
   -- by the stage
-  stage-at : (n : ℕ) → getD stages n (refused 15) s p ≡ doneAt (stepPlace n (s .leaves) (s .segments) (s .bits) h) s p
+  stage-at : (n : ℕ) → getD stages n (refused 15) s p ≡ doneAt (stepPlace n c h) s p
   unfolding stepPlace
-  stage-at zero = own-kept 8
-  stage-at (suc zero) = enter-at
-  stage-at (suc (suc zero)) = await-at
-  stage-at (suc (suc (suc zero))) = getname-at
-  stage-at (suc (suc (suc (suc zero)))) = own-kept 8
-  stage-at (suc (suc (suc (suc (suc zero))))) = putname-at
-  stage-at (suc (suc (suc (suc (suc (suc zero)))))) = stay-at
-  stage-at (suc (suc (suc (suc (suc (suc (suc n))))))) = own-kept 15
+  stage-at =
+      by-row (λ n f. f s p ≡ doneAt (getD (stagePlaces c h) n (Own h 15)) s p) stages (refused 15)
+      (own-kept 8, (enter-at, (await-at, (getname-at, (own-kept 8, (putname-at, (stay-at, λ _. own-kept 15)))))))
 
   request-at : request s p ≡ doneAt (cond (eqb (h .stage) remainder) (Own (withStage entry freshProcess) 0) (Own h 7)) s p
   unfolding request doneAt
@@ -145,14 +149,14 @@ module _ (s : State) (z : Sized s) (k : Ranges s) (p : ℕ) (kp : p < s .process
       go false e = simp e (own-kept 9)
 
   -- by the kind
-  kind-at : (kind : ℕ) → getD kinds kind (refused 12) s p ≡ doneAt (placeOf kind (s .leaves) (s .segments) (s .bits) h) s p
+  kind-at : (kind : ℕ) → getD kinds kind (refused 12) s p ≡ doneAt (placeOf kind c h) s p
   unfolding placeOf step
-  kind-at zero = request-at
-  kind-at (suc zero) = stage-at (h .stage)
-  kind-at (suc (suc zero)) = release-at
-  kind-at (suc (suc (suc n))) = own-kept 12
+  kind-at =
+      by-row (λ n f. f s p ≡ doneAt (getD (kindPlaces c h) n (Own h 12)) s p) kinds (refused 12)
+      (request-at, (stage-at (h .stage), (release-at, λ _. own-kept 12)))
 
-pub event-at : (s : State) (kind p : ℕ) → Sized s → Ranges s → kind ≤ 2 → p < s .processes
-    → event s kind p ≡ doneAt (placeOf kind (s .leaves) (s .segments) (s .bits) (processAt s p)) s p
+pub event-at : (s : State) (kind p : ℕ) → Sized s → Ranges s → kind ≤ 2 → p < s .setup .processes
+    → event s kind p ≡ doneAt (placeOf kind (s .setup) (processAt s p)) s p
 unfolding event
-event-at s kind p z k k2 kp = simp (in-range s k, le-leb kind 2 k2, lt-ltb p (s .processes) kp) (kind-at s z k p kp kind)
+event-at s kind p z k k2 kp =
+    simp (in-range s k, le-leb kind 2 k2, lt-ltb p (s .setup .processes) kp) (kind-at s z k p kp kind)

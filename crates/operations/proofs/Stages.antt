@@ -1,36 +1,29 @@
--- Stages above 6 and kinds above 2: a table's last answer. By cases on the number. Assumes nothing.
-use mathlib.Core.Path.{_≡_, refl, sym, ap, _∙_}
-use Prim.Native.Nat.{ℕ, zero, suc, _≤_}
-use native.Mathlib.Omega.{arith}
+-- The tables of places, read at a stage or a kind: above the last row the answer is 15 or 12. Assumes nothing.
+use Prim.Native.Nat.{ℕ, _≤_}
+use lib.ListN.{List·getD-eq-default}
+use Rattle.machine.proofs.Rules.{_≡_, _∙_, sym, ap, arith}
+use Rattle.machine.specs.Answer.{kind, brokenState}
 use Rattle.machine.specs.declared.Process.{Process}
-use Rattle.operations.specs.Places.{stepPlace, placeOf}
+use Rattle.machine.specs.declared.Setup.{Setup}
+use Rattle.operations.specs.Places.{stagePlaces, stepPlace, kindPlaces, placeOf}
 use Rattle.operations.specs.declared.place.Place.{Place}
 use Rattle.operations.specs.declared.place.Place.the-variants.{Own}
 
-pub stage-above : (n l g b : ℕ) (h : Process) → 7 ≤ n → stepPlace n l g b h ≡ Own h 15
-unfolding stepPlace
-stage-above zero l g b h k = absurd (omega arith)
-stage-above (suc zero) l g b h k = absurd (omega arith)
-stage-above (suc (suc zero)) l g b h k = absurd (omega arith)
-stage-above (suc (suc (suc zero))) l g b h k = absurd (omega arith)
-stage-above (suc (suc (suc (suc zero)))) l g b h k = absurd (omega arith)
-stage-above (suc (suc (suc (suc (suc zero))))) l g b h k = absurd (omega arith)
-stage-above (suc (suc (suc (suc (suc (suc zero)))))) l g b h k = absurd (omega arith)
-stage-above (suc (suc (suc (suc (suc (suc (suc n))))))) l g b h k = refl
+module _ (c : Setup) (h : Process) where
+  pub stage-above : (n : ℕ) → 7 ≤ n → stepPlace n c h ≡ Own h brokenState
+  unfolding stepPlace
+  stage-above n k = List·getD-eq-default (stagePlaces c h) (Own h brokenState) {n = n} k
 
-pub kind-above : (n l g b : ℕ) (h : Process) → 3 ≤ n → placeOf n l g b h ≡ Own h 12
-unfolding placeOf
-kind-above zero l g b h k = absurd (omega arith)
-kind-above (suc zero) l g b h k = absurd (omega arith)
-kind-above (suc (suc zero)) l g b h k = absurd (omega arith)
-kind-above (suc (suc (suc n))) l g b h k = refl
+  pub kind-above : (n : ℕ) → 3 ≤ n → placeOf n c h ≡ Own h kind
+  unfolding placeOf
+  kind-above n k = List·getD-eq-default (kindPlaces c h) (Own h kind) {n = n} k
 
--- a place that is the table's row for the stage found
-pub at-stage : (n l g b : ℕ) (h : Process) {x : Place} → h .stage ≡ n → x ≡ stepPlace n l g b h → x ≡ stepPlace (h .stage) l g b h
-at-stage n l g b h e k = k ∙ ap (λ (i : ℕ). stepPlace i l g b h) (sym e)
+  -- a place that is the table's row for the stage, or the kind, found
+  pub at-stage : {n : ℕ} {x : Place} → h .stage ≡ n → x ≡ stepPlace n c h → x ≡ stepPlace (h .stage) c h
+  at-stage e k = k ∙ ap (λ (i : ℕ). stepPlace i c h) (sym e)
 
-pub at-kind : (n kind l g b : ℕ) (h : Process) {x : Place} → kind ≡ n → x ≡ placeOf n l g b h → x ≡ placeOf kind l g b h
-at-kind n kind l g b h e k = k ∙ ap (λ (i : ℕ). placeOf i l g b h) (sym e)
+  pub at-kind : {n m : ℕ} {x : Place} → m ≡ n → x ≡ placeOf n c h → x ≡ placeOf m c h
+  at-kind e k = k ∙ ap (λ (i : ℕ). placeOf i c h) (sym e)
 
 -- a number that is none of 0 to 6; the parts nest as a match leaves them
 abbrev NoneToThree : ℕ → Type 0

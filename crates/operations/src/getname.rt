@@ -2,9 +2,13 @@
 use crate::words;
 use machine::ClaimStep;
 use machine::Process;
+use machine::Setup;
+use machine::answer;
+use machine::stage;
 ghost use mathlib.Core.Path.{_≡_};
 ghost use Prim.Native.Nat.{_+_, _*_, _≤_, _<_};
 ghost use Rattle.machine.specs.Getname.{claimed, side, outcome};
+ghost use Rattle.operations.specs.Places.{Setting};
 ghost use Rattle.operations.specs.Moves.{descended, probed};
 
 // A process record and a shared word after an operation, with its answer.
@@ -27,14 +31,14 @@ fn side_of(v: u8, old: u8) -> ClaimStep
 }
 
 // Won, the next segment, or none left, by the answer m of set_first_zero on segment word r.
-fn outcome_of(g: u8, b: u8, r: u8, i: u8, m: u8) -> ClaimStep
-    requires { ⌜ (i < g) × (r * b + b ≤ 64) ⌝ }
-    ensures { λ c. ⌜ c ≡ outcome g b r i m ⌝ }
+fn outcome_of(setup: Setup, r: u8, i: u8, m: u8) -> ClaimStep
+    requires { ⌜ (i < setup .segments) × (r * setup .bits + setup .bits ≤ 64) ⌝ }
+    ensures { λ c. ⌜ c ≡ outcome setup r i m ⌝ }
 {
-    if m < b {
-        return ClaimStep::Won(r * b + m);
+    if m < setup.bits {
+        return ClaimStep::Won(r * setup.bits + m);
     }
-    if i + 1 < g {
+    if i + 1 < setup.segments {
         ClaimStep::NextSegment(i + 1)
     } else {
         ClaimStep::Exhausted
@@ -58,7 +62,7 @@ fn claim(c: ClaimStep, h: Process) -> Process
             x
         }
         ClaimStep::Won(m) => {
-            x.stage = 4;
+            x.stage = stage::WORKING;
             x.name = m;
             x
         }
@@ -67,7 +71,7 @@ fn claim(c: ClaimStep, h: Process) -> Process
             x
         }
         ClaimStep::Exhausted => {
-            x.stage = 6;
+            x.stage = stage::EXHAUSTED;
             x
         }
     }
@@ -85,34 +89,34 @@ pub fn descend(h: Process, c: u8) -> Moved
         return Moved {
             process: x,
             word: op.word,
-            answer: 0,
+            answer: answer::ACCEPTED,
         };
     }
     Moved {
         process: h,
         word: c,
-        answer: 15,
+        answer: answer::BROKEN_STATE,
     }
 }
 
 // At a leaf: set_first_zero on its segment word w, the word number r.
-pub fn probe(h: Process, w: u8, r: u8, g: u8, b: u8) -> Moved
-    requires { ⌜ (b ≤ 8) × ((h .segment < g) × (r * b + b ≤ 64)) ⌝ }
-    ensures { λ m. ⌜ m ≡ probed g b r h w ⌝ }
+pub fn probe(h: Process, w: u8, r: u8, setup: Setup) -> Moved
+    requires { ⌜ Setting setup h × (r < setup .leaves * setup .segments) ⌝ }
+    ensures { λ m. ⌜ m ≡ probed setup r h w ⌝ }
 {
     if h.steps < 255 {
-        let op = words::set_first_zero(b, w);
-        let step = outcome_of(g, b, r, h.segment, op.answer);
+        let op = words::set_first_zero(setup.bits, w);
+        let step = outcome_of(setup, r, h.segment, op.answer);
         let x = claim(step, h);
         return Moved {
             process: x,
             word: op.word,
-            answer: 0,
+            answer: answer::ACCEPTED,
         };
     }
     Moved {
         process: h,
         word: w,
-        answer: 15,
+        answer: answer::BROKEN_STATE,
     }
 }

@@ -1,6 +1,5 @@
-// The operations of one event: what each makes of one process record and the one shared place that it touches. For the crates
-// above; a user calls those.
-pub mod gate;
+// The operations of one event on a counter or a segment word, and which shared place an event touches. For the crates above; a user
+// calls those.
 pub mod getname;
 pub mod place;
 pub mod putname;

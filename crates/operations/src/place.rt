@@ -1,5 +1,11 @@
 // Which shared place an event touches.
+use fresh::state;
+use machine::NO_NAME;
 use machine::Process;
+use machine::Setup;
+use machine::answer;
+use machine::kind;
+use machine::stage;
 ghost use mathlib.Core.Path.{_≡_};
 ghost use Rattle.operations.specs.Places.{stepPlace, placeOf, Setting};
 
@@ -17,25 +23,25 @@ pub enum Place {
 }
 
 // A step (turn), by the stage.
-fn step_place(h: Process, l: u8, g: u8, b: u8) -> Place
-    requires { ⌜ Setting l g b h ⌝ }
-    ensures { λ r. ⌜ r ≡ stepPlace (h .stage) l g b h ⌝ }
+fn step_place(h: Process, setup: Setup) -> Place
+    requires { ⌜ Setting setup h ⌝ }
+    ensures { λ r. ⌜ r ≡ stepPlace (h .stage) setup h ⌝ }
 {
-    let stage = h.stage;
-    match stage {
-        0 => Place::Own(h, 8),
-        1 => Place::Gate,
-        2 => Place::Queue,
-        3 => {
-            if h.node < l {
+    let at = h.stage;
+    match at {
+        stage::REMAINDER => Place::Own(h, answer::NOT_MOVING),
+        stage::ENTRY => Place::Gate,
+        stage::WAITING => Place::Queue,
+        stage::GETNAME => {
+            if h.node < setup.leaves {
                 return Place::Counter(h.node);
             }
-            Place::Segment((h.node - l) * g + h.segment)
+            Place::Segment((h.node - setup.leaves) * setup.segments + h.segment)
         }
-        4 => Place::Own(h, 8),
-        5 => {
-            if h.name != 255 {
-                return Place::Bit(h.name / b, h.name % b);
+        stage::WORKING => Place::Own(h, answer::NOT_MOVING),
+        stage::PUTNAME => {
+            if h.name != NO_NAME {
+                return Place::Bit(h.name / setup.bits, h.name % setup.bits);
             }
             if h.node > 1 {
                 let u = h.node / 2;
@@ -44,43 +50,38 @@ fn step_place(h: Process, l: u8, g: u8, b: u8) -> Place
                 }
                 let mut x = h;
                 x.node = u;
-                return Place::Own(x, 0);
+                return Place::Own(x, answer::ACCEPTED);
             }
             Place::Root
         }
-        6 => Place::Own(h, 0),
-        _ => Place::Own(h, 15),
+        stage::EXHAUSTED => Place::Own(h, answer::ACCEPTED),
+        _ => Place::Own(h, answer::BROKEN_STATE),
     }
 }
 
 // An event, by the kind.
-pub fn place_of(kind: u8, h: Process, l: u8, g: u8, b: u8) -> Place
-    requires { ⌜ Setting l g b h ⌝ }
-    ensures { λ r. ⌜ r ≡ placeOf kind l g b h ⌝ }
+pub fn place_of(kind: u8, h: Process, setup: Setup) -> Place
+    requires { ⌜ Setting setup h ⌝ }
+    ensures { λ r. ⌜ r ≡ placeOf kind setup h ⌝ }
 {
     match kind {
-        0 => {
-            if h.stage == 0 {
-                let x = Process {
-                    stage: 1,
-                    node: 1,
-                    segment: 0,
-                    name: 255,
-                    steps: 0,
-                };
-                return Place::Own(x, 0);
+        kind::REQUEST => {
+            if h.stage == stage::REMAINDER {
+                let mut x = state::fresh_process();
+                x.stage = stage::ENTRY;
+                return Place::Own(x, answer::ACCEPTED);
             }
-            Place::Own(h, 7)
+            Place::Own(h, answer::BUSY)
         }
-        1 => step_place(h, l, g, b),
-        2 => {
-            if h.stage == 4 {
+        kind::STEP => step_place(h, setup),
+        kind::RELEASE => {
+            if h.stage == stage::WORKING {
                 let mut x = h;
-                x.stage = 5;
-                return Place::Own(x, 0);
+                x.stage = stage::PUTNAME;
+                return Place::Own(x, answer::ACCEPTED);
             }
-            Place::Own(h, 9)
+            Place::Own(h, answer::NO_NAME_HELD)
         }
-        _ => Place::Own(h, 12),
+        _ => Place::Own(h, answer::KIND),
     }
 }

@@ -3,7 +3,6 @@ use machine::Applied;
 ghost use mathlib.Core.Path.{_≡_};
 ghost use Prim.Native.Nat.{_^_, _<_, _≤_};
 ghost use Rattle.machine.specs.Operations.{firstZero, setFirstZero, clrBit, boundedDecrement};
-ghost use Rattle.machine.specs.State.{freshCounter};
 
 // 2 to the power i.
 fn power(i: u8) -> u8
@@ -62,17 +61,4 @@ pub fn bounded_decrement(c: u8) -> Applied
         answer: c,
         word: c - 1,
     }
-}
-
-// One more than the depth of each node that may carry a counter.
-const LEVELS: [u8; 16] = [1, 1, 2, 2, 3, 3, 3, 3, 4, 4, 4, 4, 4, 4, 4, 4];
-
-// The fresh value of node v's counter, k / 2^(d+1). A table and no comparisons: the depths of a list's nodes come in no order.
-pub fn fresh_counter(k: u8, v: u8) -> u8
-    ensures { λ r. ⌜ r ≡ freshCounter k v ⌝ }
-{
-    if v < 16 {
-        return k >> LEVELS[v as usize];
-    }
-    k >> 5
 }

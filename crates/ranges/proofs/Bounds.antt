@@ -2,26 +2,24 @@
 -- tests of the queue and of the words: by comparing at each place.
 --     of-none, larger, no-larger        the greatest, one place more
 --     bits-more                         the bits, one place more
---     entry-out, past-out, queue-in     the queue
---     words-out, words-in               the words
+--     entry-out, past-decides           the queue
+--     words-decide                      the words
 -- Assumes nothing.
-use mathlib.Core.Path.{_≡_, refl, sym, _∙_}
-use mathlib.Core.Bool.{Bool, true, false, cond, _&&_, _||_, false≢true}
 use mathlib.Core.List.{List}
-use mathlib.Core.Logic.{inl, inr, ⊎-elim}
 use Prim.Native.Nat.{ℕ, _+_, _-_, _^_, _<_, _≤_}
 use native.Mathlib.Nat.{le-refl, eq-or-lt-of-le}
 use native.Mathlib.Numerals.{add-one}
-use native.Mathlib.Omega.{arith}
 use lib.Bits.{bitOr, or-add-and, and-le-l, and-le-r}
-use lib.Dec.{eqb, ltb}
+use lib.Dec.{eqb, ltb, leb}
 use lib.ListN.{getD}
-use borrow.Author.Tests.{ltb-true, eqb-true, lt-ltb, le-ltb, eq-eqb}
+use lib.Pow.{pow-pos}
+use Rattle.machine.proofs.Rules.{_≡_, refl, cond, false, Bool, _||_, true, _&&_, ⊎-elim, inl, inr, arith, eq-eqb, leb-true, eqb-true, lt-ltb, le-leb, le-ltb, ltb-true}
 use Rattle.machine.specs.Below.{allBelow}
-use Rattle.machine.proofs.Facts.Below.{all-in, all-at, all-fails}
-use Rattle.machine.proofs.Facts.Tests.{by-cond, both, and-left, and-right, same-test}
-use Rattle.ranges.specs.Tests.{Greatest, placeTest, pastTest, wordTest}
-use Rattle.ranges.proofs.Masks.{word-in, word-out}
+use Rattle.machine.specs.Range.{placeTest, wordTest}
+use Rattle.machine.specs.declared.Setup.{Setup}
+use Rattle.machine.proofs.Facts.Below.{all-in, all-at, all-fails, all-same}
+use Rattle.machine.proofs.Facts.Tests.{both, and-left, and-right, same-test}
+use Rattle.ranges.specs.Tests.{Greatest, pastTest}
 
 module _ {xs : List ℕ} where
   pub of-none : Greatest xs 0 0
@@ -43,7 +41,8 @@ module _ {xs : List ℕ} where
       }
 
   -- a test that fails where the greatest stands
-  greatest-fails : {e r n : ℕ} (f : ℕ → Bool) → e ≤ n → Greatest xs e r → (r ≡ 0 → ⊥) → ((i : ℕ) → i < e → getD xs i 0 ≡ r → f i ≡ false) → allBelow n f ≡ false
+  greatest-fails : {e r n : ℕ} (f : ℕ → Bool) → e ≤ n → Greatest xs e r → (r ≡ 0 → ⊥)
+      → ((i : ℕ) → i < e → getD xs i 0 ≡ r → f i ≡ false) → allBelow n f ≡ false
   greatest-fails {e} {r} {n} f l g z h =
       ⊎-elim
       (λ q. absurd (z q))
@@ -71,32 +70,30 @@ bits-more f i b x p h = rw (add-one, or-none b x, p, h)
 -- the queue q of m entries below n
 module _ (q : List ℕ) (m n : ℕ) where
   pub entry-out : {r : ℕ} → m ≤ 64 → 1 ≤ n → Greatest q m r → n ≤ r → allBelow 64 (placeTest n m q) ≡ false
-  entry-out {r} l k g h = greatest-fails (placeTest n m q) l g (λ z. omega arith) (λ i t e. simp (lt-ltb i m t, le-ltb (getD q i 0) n (rw e h)))
+  entry-out {r} l k g h =
+      greatest-fails (placeTest n m q) l g (λ z. omega arith)
+      (λ i t e. simp (lt-ltb i m t, le-ltb (getD q i 0) n (rw e h)))
 
-  past-of : (i : ℕ) → placeTest n m q i ≡ true → pastTest m q i ≡ true
-  past-of i = go (ltb i m) (ltb (getD q i 0) n) (eqb (getD q i 0) 0) where
-    go : (t u v : Bool) → cond t u v ≡ true → (t || v) ≡ true
-    go true u v e = refl
-    go false u v e = e
+  -- where every entry is below n, the places past them decide
+  pub past-decides : {r : ℕ} → Greatest q m r → r < n → allBelow 64 (placeTest n m q) ≡ allBelow 64 (pastTest m q)
+  past-decides {r} g h = all-same 64 (placeTest n m q) (pastTest m q) (λ i l. go i (ltb i m) refl) where
+    go : (i : ℕ) (t : Bool) → ltb i m ≡ t → cond t (ltb (getD q i 0) n) (eqb (getD q i 0) 0) ≡ (t || eqb (getD q i 0) 0)
+    go i true e = lt-ltb (getD q i 0) n (omega (arith, g .most i (ltb-true i m e)))
+    go i false e = refl
 
-  pub past-out : allBelow 64 (pastTest m q) ≡ false → allBelow 64 (placeTest n m q) ≡ false
-  past-out h = go (allBelow 64 (placeTest n m q)) refl where
-    go : (t : Bool) → allBelow 64 (placeTest n m q) ≡ t → t ≡ false
-    go true e = absurd (false≢true (sym h ∙ all-in 64 (pastTest m q) (λ i l. past-of i (all-at 64 (placeTest n m q) e i l))))
-    go false e = refl
-
-  pub queue-in : {r : ℕ} → Greatest q m r → r < n → allBelow 64 (pastTest m q) ≡ true → allBelow 64 (placeTest n m q) ≡ true
-  queue-in {r} g h p =
-      all-in 64 (placeTest n m q) (λ i s. by-cond
-      (λ u. u ≡ true)
-      (ltb i m)
-      (λ t. lt-ltb (getD q i 0) n (omega (arith, g .most i (ltb-true i m t))))
-      (λ t. rw t at (all-at 64 (pastTest m q) p i s)))
-
--- the words ws, each at most the greatest of b bits
-module _ {ws : List ℕ} {e r top : ℕ} (b : ℕ) (m : top ≡ 2 ^ b - 1) (g : Greatest ws e r) where
-  pub words-out : top < r → allBelow e (wordTest b ws) ≡ false
-  words-out h = greatest-fails (wordTest b ws) (le-refl e) g (λ z. omega arith) (λ i t q. word-out b (getD ws i 0) top m (rw q h))
-
-  pub words-in : r ≤ top → allBelow e (wordTest b ws) ≡ true
-  words-in h = all-in e (wordTest b ws) (λ i s. word-in b (getD ws i 0) top m (omega (arith, g .most i s)))
+-- the words ws, each at most the greatest of a setup's bits
+module _ {ws : List ℕ} {e r top : ℕ} (c : Setup) (m : top ≡ 2 ^ c .bits - 1) (g : Greatest ws e r) where
+  pub words-decide : allBelow e (wordTest c ws) ≡ leb r top
+  words-decide =
+      same-test (allBelow e (wordTest c ws)) (leb r top)
+      (λ t.
+      le-leb r top
+      (⊎-elim
+      (λ z. omega arith)
+      (λ w.
+      let low = ltb-true (getD ws (w .0) 0) (2 ^ c .bits) (all-at e (wordTest c ws) t (w .0) (w .1 .0)) in
+      omega (arith, m, w .1 .1, low))
+      (g .met)))
+      (λ t.
+      all-in e (wordTest c ws)
+      (λ i s. lt-ltb (getD ws i 0) (2 ^ c .bits) (omega (arith, m, g .most i s, leb-true r top t, pow-pos (c .bits)))))

@@ -1,5 +1,4 @@
 -- What the functions' proofs share.
-pub mod Accepted
 pub mod Bounds
 pub mod GateWord
 pub mod Masks

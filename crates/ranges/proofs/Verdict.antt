@@ -1,10 +1,9 @@
 -- A list of tests fails with any one of them, by induction on the list; and past the tests that pass, the last one decides.
 -- Assumes nothing.
-use mathlib.Core.Path.{_≡_, sym, _∙_, ap}
-use mathlib.Core.Bool.{Bool, true, false, _&&_, and-true, and-false, false≢true}
 use mathlib.Core.List.{List, [], _∷_}
 use Prim.Native.Nat.{ℕ, zero, suc}
 use lib.ListN.{getD}
+use Rattle.machine.proofs.Rules.{_≡_, _∙_, sym, ap, and-true, true, false, Bool, _&&_, false≢true, and-false}
 use Rattle.machine.specs.Check.{allOf}
 
 pub one-fails : (ts : List Bool) (i : ℕ) → getD ts i true ≡ false → allOf ts ≡ false

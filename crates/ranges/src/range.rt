@@ -1,15 +1,21 @@
 // Whether each number of a state is in its range.
-use crate::limits;
+use fresh::counter;
+use fresh::limits;
+use machine::NO_NAME;
 use machine::Process;
+use machine::Setup;
 use machine::State;
-use operations::words::fresh_counter;
+use machine::answer;
+use machine::stage;
 ghost use mathlib.Core.Path.{_≡_};
-ghost use Prim.Native.Nat.{_-_, _^_, _≤_};
+ghost use Prim.Native.Nat.{_-_, _*_, _^_, _≤_};
 ghost use lib.Dec.{eqb};
 ghost use lib.ListN.{getD};
 ghost use Rattle.machine.specs.Below.{allBelow};
-ghost use Rattle.machine.specs.Range.{gateInRange, inRange};
-ghost use Rattle.ranges.specs.Tests.{Greatest, pastTest, placeTest, counterTest, wordTest, processTest};
+ghost use Rattle.machine.specs.Check.{allOf};
+ghost use Rattle.machine.specs.Range.{gateInRange, placeTest, counterTest, wordTest, processTest, entryTests, inRange};
+ghost use Rattle.machine.specs.Setup.{setupAnswer};
+ghost use Rattle.ranges.specs.Tests.{Greatest, pastTest};
 
 // The greatest word of each number of bits.
 const MASKS: [u8; 9] = [0, 1, 3, 7, 15, 31, 63, 127, 255];
@@ -30,10 +36,7 @@ fn gate_in_range(k: u8, a: i8) -> bool
     if a < -64 {
         return false;
     }
-    if a > top {
-        return false;
-    }
-    true
+    a <= top
 }
 
 // The greatest of the first e numbers; 0 of none. It stops nowhere, so that the compiler takes many at once.
@@ -80,35 +83,30 @@ fn queue_in_range(queue: &[u8; 64], m: u8, n: u8) -> bool
     if greatest(queue, m) >= n {
         return false;
     }
-    if bits_past(queue, m) != 0 {
-        return false;
-    }
-    true
+    bits_past(queue, m) == 0
 }
 
 // A counter of at most its fresh value; node 0 is none.
-fn counter_in_range(c: u8, k: u8, v: u8) -> bool
-    ensures { λ r. ⌜ r ≡ counterTest k v c ⌝ }
+fn counter_in_range(n: u8, setup: Setup, v: u8) -> bool
+    requires { ⌜ setupAnswer setup ≡ 0 ⌝ }
+    ensures { λ r. ⌜ r ≡ counterTest setup v n ⌝ }
 {
     if v == 0 {
         return true;
     }
-    if c > fresh_counter(k, v) {
-        return false;
-    }
-    true
+    n <= counter::fresh_counter(setup, v)
 }
 
-// The counters of the nodes below l. The bound 16 is for the compiler, which then knows each node's depth.
-fn counters_in_range(counters: &[u8; 16], l: u8, k: u8) -> bool
-    requires { ⌜ l ≤ 16 ⌝ }
-    ensures { λ r. ⌜ r ≡ allBelow l (λ v. counterTest k v (getD (now (counters .entry)) v 0)) ⌝ }
+// The counters of the nodes below L. The bound 16 is for the compiler, which then knows each node's depth.
+fn counters_in_range(counters: &[u8; 16], setup: Setup) -> bool
+    requires { ⌜ setupAnswer setup ≡ 0 ⌝ }
+    ensures { λ r. ⌜ r ≡ allBelow (setup .leaves) (λ v. counterTest setup v (getD (now (counters .entry)) v 0)) ⌝ }
 {
     let mut v: u8 = 0;
     while v < 16 {
-        if v < l {
+        if v < setup.leaves {
             let i = v as usize;
-            if !counter_in_range(counters[i], k, v) {
+            if !counter_in_range(counters[i], setup, v) {
                 return false;
             }
         }
@@ -117,75 +115,71 @@ fn counters_in_range(counters: &[u8; 16], l: u8, k: u8) -> bool
     true
 }
 
-// The first words, each of b bits.
-fn words_in_range(words: &[u8; 64], count: u8, b: u8) -> bool
-    requires { ⌜ (count ≤ 64) × (b ≤ 8) ⌝ }
-    ensures { λ r. ⌜ r ≡ allBelow count (wordTest b (now (words .entry))) ⌝ }
+// The segment words in use, each of b bits.
+fn words_in_range(words: &[u8; 64], setup: Setup) -> bool
+    requires { ⌜ setupAnswer setup ≡ 0 ⌝ }
+    ensures { λ r. ⌜ r ≡ allBelow (setup .leaves * setup .segments) (wordTest setup (now (words .entry))) ⌝ }
 {
-    let full = mask(b);
-    if greatest(words, count) > full {
-        return false;
-    }
-    true
+    let full = mask(setup.bits);
+    greatest(words, setup.leaves * setup.segments) <= full
 }
 
 // The numbers of one process. Its steps are a byte, so that they need no test.
-fn process_in_range(h: Process, l: u8, g: u8, k: u8) -> bool
-    requires { ⌜ l ≤ 16 ⌝ }
-    ensures { λ r. ⌜ r ≡ processTest l g k h ⌝ }
+fn process_in_range(h: Process, setup: Setup) -> bool
+    requires { ⌜ setupAnswer setup ≡ 0 ⌝ }
+    ensures { λ r. ⌜ r ≡ processTest setup h ⌝ }
 {
-    if h.stage > 6 {
+    if h.stage > stage::EXHAUSTED {
         return false;
     }
     if h.node < 1 {
         return false;
     }
-    if h.node >= 2 * l {
+    if h.node >= 2 * setup.leaves {
         return false;
     }
-    if h.segment >= g {
+    if h.segment >= setup.segments {
         return false;
     }
-    if h.name < k {
+    if h.name < limits::names_of(setup) {
         return true;
     }
-    if h.name == 255 {
-        return true;
+    h.name == NO_NAME
+}
+
+// The setup's numbers, the gate word and its queue.
+fn entry_in_range(setup: Setup, gate: i8, queued: u8, queue: &[u8; 64]) -> bool
+    ensures { λ r. ⌜ r ≡ allOf (entryTests setup gate queued (now (queue .entry))) ⌝ }
+{
+    if limits::setup_answer(setup) != answer::ACCEPTED {
+        return false;
     }
-    false
+    if !gate_in_range(limits::names_of(setup), gate) {
+        return false;
+    }
+    if queued > 64 {
+        return false;
+    }
+    queue_in_range(queue, queued, setup.processes)
 }
 
 // Is every number of the state in its range?
 pub fn in_range(s: State) -> bool
     ensures { λ r. ⌜ r ≡ inRange s ⌝ }
 {
-    let n = s.processes;
-    let l = s.leaves;
-    let g = s.segments;
-    let b = s.bits;
-    if limits::setup_answer(n, l, g, b) != 0 {
+    if !entry_in_range(s.setup, s.gate, s.queued, &s.queue) {
         return false;
     }
-    let k = limits::names_of(l, g, b);
-    if !gate_in_range(k, s.gate) {
+    if !counters_in_range(&s.counters, s.setup) {
         return false;
     }
-    if s.queued > 64 {
+    if !words_in_range(&s.words, s.setup) {
         return false;
     }
-    if !queue_in_range(&s.queue, s.queued, n) {
-        return false;
-    }
-    if !counters_in_range(&s.counters, l, k) {
-        return false;
-    }
-    if !words_in_range(&s.words, l * g, b) {
-        return false;
-    }
-    let end = n as usize;
+    let end = s.setup.processes as usize;
     let mut i: usize = 0;
     while i < end {
-        if !process_in_range(s.process[i], l, g, k) {
+        if !process_in_range(s.process[i], s.setup) {
             return false;
         }
         i += 1;

@@ -1,10 +1,9 @@
 -- A list of one event: its state is the event's, and its journal's first byte the event's answer, by computation. Assumes nothing.
-use mathlib.Core.Path.{_≡_, refl, _∙_, ap}
-use mathlib.Core.Bool.{_||_}
 use mathlib.Core.List.{List, [], _∷_, _++_, append-assoc}
 use Prim.Native.Nat.{ℕ}
 use lib.Dec.{eqb}
 use lib.ListN.{getD, drop}
+use Rattle.machine.proofs.Rules.{_≡_, _∙_, ap, refl, _||_}
 use Rattle.machine.specs.Event.{event}
 use Rattle.machine.specs.Lists.{Event, eventsOf, eventDone, after, entryOf, journal, journalLength, written}
 use Rattle.machine.specs.State.{done}

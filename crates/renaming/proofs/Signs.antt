@@ -1,15 +1,12 @@
 -- The gate word's two figures, by cases on its sign: its positive part, and its negation, which fits. Assumes nothing.
-use mathlib.Core.Path.{_≡_, refl, sym, _∙_}
-use mathlib.Core.Bool.{true, false, true≢false, false≢true}
 use Prim.Native.Nat.{ℕ, zero, suc, _≤_}
-use native.Mathlib.Omega.{arith}
 use lib.Dec.{T}
 use lib.IntN.{ℤ, pos, negsuc, negℤ, natAbs, _-ℤ_, +ℤ-idl}
 use lib.Signed.{ltZ, nonNeg}
 use mir.Facts.{sfits-lit}
 use mir.Syntax.{w8}
 use mir.Val.{SFits}
-use borrow.Author.Tests.{leb-true, ltb-true, le-leb, lt-ltb}
+use Rattle.machine.proofs.Rules.{_≡_, _∙_, sym, refl, true, false, true≢false, false≢true, arith, lt-ltb, le-leb, ltb-true, leb-true}
 use Rattle.machine.specs.Range.{gateInRange}
 use Rattle.machine.specs.Reports.{positivePart}
 

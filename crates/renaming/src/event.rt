@@ -1,10 +1,12 @@
 // One event: request (document 01: ask), step (turn), release (finish).
-use crate::runner;
 use machine::Done;
 use machine::State;
+use machine::answer;
+use machine::kind;
 use ranges::range;
 ghost use mathlib.Core.Path.{_≡_};
 ghost use Rattle.machine.specs.Event;
+ghost use Rattle.machine.specs.Kind;
 
 // Kind 0 requests, 1 steps, 2 releases. 15 for the state, 12 for the kind, 6 for the process, then what the event answers.
 pub fn event(state: State, kind: u8, process: u8) -> Done
@@ -12,7 +14,7 @@ pub fn event(state: State, kind: u8, process: u8) -> Done
 {
     if !range::in_range(state) {
         return Done {
-            answer: 15,
+            answer: answer::BROKEN_STATE,
             state: state,
         };
     }
@@ -26,19 +28,19 @@ pub fn event(state: State, kind: u8, process: u8) -> Done
 }
 
 pub fn request(state: State, process: u8) -> Done
-    ensures { λ r. ⌜ r ≡ Event.event state 0 process ⌝ }
+    ensures { λ r. ⌜ r ≡ Event.event state Kind.request process ⌝ }
 {
-    event(state, 0, process)
+    event(state, kind::REQUEST, process)
 }
 
 pub fn step(state: State, process: u8) -> Done
-    ensures { λ r. ⌜ r ≡ Event.event state 1 process ⌝ }
+    ensures { λ r. ⌜ r ≡ Event.event state Kind.step process ⌝ }
 {
-    event(state, 1, process)
+    event(state, kind::STEP, process)
 }
 
 pub fn release(state: State, process: u8) -> Done
-    ensures { λ r. ⌜ r ≡ Event.event state 2 process ⌝ }
+    ensures { λ r. ⌜ r ≡ Event.event state Kind.release process ⌝ }
 {
-    event(state, 2, process)
+    event(state, kind::RELEASE, process)
 }

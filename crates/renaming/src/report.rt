@@ -1,6 +1,7 @@
 // The gate report.
 use machine::Report;
 use machine::State;
+use machine::answer;
 use ranges::range;
 ghost use mathlib.Core.Path.{_≡_};
 ghost use mathlib.Core.Bool.{true};
@@ -29,14 +30,14 @@ pub fn gate_report(state: State) -> Report
 {
     if !range::in_range(state) {
         return Report {
-            answer: 15,
+            answer: answer::BROKEN_STATE,
             free: 0,
             queued: 0,
         };
     }
     let down = negated(state.gate);
     Report {
-        answer: 0,
+        answer: answer::ACCEPTED,
         free: positive_part(state.gate),
         queued: positive_part(down),
     }

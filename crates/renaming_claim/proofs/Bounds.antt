@@ -1,135 +1,92 @@
--- The bounds of the invariant on how many stand in each region, and how they follow one process that moves: only the region that
--- it enters has to be looked at. M bounds how many are admitted at any moment.
---     Bound       at most the open names of the region, and at most those of the M lowest open names that lie past its start
---     Bounds      every subtree, every leaf from a segment on, and each counter with what stands on its left
---     bounds-move, bounds-less, bounds-same    one process moves
+-- The bounds once one process is another record: only the region that it enters has to be looked at.
+--     segment-bound    a leaf from any of its segments on
+--     bounds-move      it enters at most one subtree, and no later segment of a leaf
+--     stays-out, stays-put    it stays out of the tree, or at its place in it
 -- Assumes nothing.
-pub mod Descend
-pub mod Root
-pub mod Climb
+pub mod Levels
 pub mod Segments
-use mathlib.Core.Path.{_≡_}
-use mathlib.Core.Logic.{_≢_}
-use mathlib.Core.Bool.{Bool, true}
 use mathlib.Core.List.{List}
-use Prim.Native.Nat.{ℕ, zero, suc, _+_, _*_, _-_, _≤_, _<_}
+use Prim.Native.Nat.{ℕ, zero, suc, _+_, _*_, _≤_, _<_}
 use native.Mathlib.Decide.{ℕ-discrete}
-use native.Mathlib.Omega.{arith}
 use lib.Dec.{eqb}
-use lib.ListN.{length, getD, set}
-use borrow.Author.Tests.{ne-eqb}
+use lib.ListN.{getD}
+use Rattle.machine.proofs.Rules.{_≡_, Bool, arith, ne-eqb}
 use Rattle.machine.specs.Below.{indicator as ind}
-use Rattle.machine.specs.Setup.{Setup, isLeaves}
-use Rattle.machine.specs.declared.Process.{Process}
+use Rattle.machine.specs.Stage.{getname}
+use Rattle.machine.specs.State.{counterAt}
 use Rattle.machine.proofs.Facts.Leaves.{leaves-low}
-use Rattle.renaming_claim.proofs.Names.{openIn, rank, nodeFirst, nodeCount, segmentFirst, segmentCount, first-leaf, count-leaf}
-use Rattle.renaming_claim.proofs.Regions.{inSubtree, inSegments, segments-subtree}
-use Rattle.renaming_claim.proofs.Tally.{at, tally, tally-set, tally-le}
+use Rattle.renaming_claim.proofs.Facts.Sums.{sum-le}
+use Rattle.renaming_claim.proofs.Invariant.{tally, inSubtree, inSegments, Bound, SubtreeBound, SegmentBound, CounterIs, Bounds}
+use Rattle.renaming_claim.proofs.Mover.{Setup, Process, State, processAt, Mover, inv, limits, stored, counts}
+use Rattle.renaming_claim.proofs.Regions.{first-leaf, count-leaf, subtree-out, subtree-same, segments-out, segments-same, segments-subtree}
 
-module _ (c : Setup) (M : ℕ) where
-  pub record Bound (count from len : ℕ) : Type 0 where
-    pub cap : count ≤ openIn c from len
-    pub top : count ≤ M - rank c from
+module _ {M : ℕ} {s : State} {p : ℕ} (m : Mover M s p) where
+  abbrev c : Setup
+  c = s .setup
 
-  abbrev subtreeCount : ℕ → List Process → ℕ
-  subtreeCount u ps = tally (c .processes) (inSubtree u) ps
+  abbrev h : Process
+  h = processAt s p
 
-  abbrev segmentsCount : ℕ → ℕ → List Process → ℕ
-  segmentsCount j i ps = tally (c .processes) (inSegments (c .leaves + j) i) ps
-
-  abbrev pub SubtreeBound : List Process → ℕ → Type 0
-  SubtreeBound ps u = Bound (subtreeCount u ps) (nodeFirst c u) (nodeCount c u)
-
-  abbrev pub SegmentBound : List Process → ℕ → ℕ → Type 0
-  SegmentBound ps j i = Bound (segmentsCount j i ps) (segmentFirst c j i) (segmentCount c i)
-
-  -- the counter of node v and those on its left make up the open names there
-  abbrev pub CounterIs : List Process → List ℕ → ℕ → Type 0
-  CounterIs ps cs v = getD cs v 0 + subtreeCount (2 * v) ps ≡ openIn c (nodeFirst c (2 * v)) (nodeCount c (2 * v))
-
-  pub record Bounds (ps : List Process) (cs : List ℕ) : Type 0 where
-    pub subtrees : (u : ℕ) → 0 < u → u < 2 * c .leaves → SubtreeBound ps u
-    -- segment 0 is the leaf's own bound
-    pub segments : (j i : ℕ) → j < c .leaves → i < c .segments → SegmentBound ps j (suc i)
-    pub counters : (v : ℕ) → 0 < v → v < c .leaves → CounterIs ps cs v
-
-  -- a leaf from any of its segments on
-  pub segment-bound : {ps : List Process} {cs : List ℕ} → isLeaves (c .leaves) ≡ true → Bounds ps cs
-      → (j i : ℕ) → j < c .leaves → i ≤ c .segments → SegmentBound ps j i
-  segment-bound {ps} e k j zero l m =
+  -- segment 0 is the leaf's own bound
+  pub segment-bound : (j i : ℕ) → j < c .leaves → i ≤ c .segments → SegmentBound c M (s .process) j i
+  unfolding tally
+  segment-bound j zero l k =
       let u : ℕ = c .leaves + j in
-      let own = k .subtrees u (omega (arith, leaves-low (c .leaves) e)) (omega arith) in
-      let t : segmentsCount j 0 ps ≤ subtreeCount u ps
-      = tally-le (c .processes) (inSegments u 0) (inSubtree u) ps (λ p _. segments-subtree u 0 (at ps p)) in
-      rw (← first-leaf c e j l, ← count-leaf c e j l) (record { cap = omega (arith, own .cap); top = omega (arith, own .top) })
-  segment-bound e k j (suc i) l m = k .segments j i l (omega arith)
+      let own = inv m .bounds .subtrees u (omega (arith, leaves-low (c .leaves) (limits m .leaves))) (omega arith) in
+      let less = sum-le (c .processes) (λ q. ind (inSegments u 0 (processAt s q))) (λ q. ind (inSubtree u (processAt s q)))
+      (λ q _. segments-subtree u 0 (processAt s q)) in
+      rw (← first-leaf c (limits m .leaves) l, ← count-leaf c (limits m .leaves) l)
+      (record { cap = omega (arith, own .cap); top = omega (arith, own .top) })
+  segment-bound j (suc i) l k = inv m .bounds .segments j i l (omega arith)
 
-  -- process p becomes h
-  module _ (ps : List Process) (p : ℕ) (h : Process) (len : c .processes ≤ length ps) (kp : p < c .processes) where
-    abbrev ps′ : List Process
-    ps′ = set ps p h
-
+  -- it becomes x
+  module _ (x : Process) where
     -- a region whose count does not grow keeps its bound
-    keep : (test : Process → Bool) {from count : ℕ} → ind (test h) ≤ ind (test (at ps p))
-        → Bound (tally (c .processes) test ps) from count → Bound (tally (c .processes) test ps′) from count
-    keep test d o =
-        let less : tally (c .processes) test ps′ ≤ tally (c .processes) test ps = omega (arith, tally-set (c .processes) test ps p h len kp) in
-        record { cap = omega (arith, o .cap); top = omega (arith, o .top) }
+    pub bound-keeps : (test : Process → Bool) {from n : ℕ} → ind (test x) ≤ ind (test h)
+        → Bound c M (tally c test (s .process)) from n → Bound c M (tally c test (stored m x)) from n
+    bound-keeps test d o = record { cap = omega (arith, counts m x test, o .cap); top = omega (arith, counts m x test, o .top) }
 
-    -- at most the subtree of t gains it
-    pub subtrees-move : (t : ℕ)
-        → ((u : ℕ) → 0 < u → u < 2 * c .leaves → ind (inSubtree u h) ≤ ind (inSubtree u (at ps p)) + ind (eqb u t))
-        → (0 < t → SubtreeBound ps′ t)
-        → ((u : ℕ) → 0 < u → u < 2 * c .leaves → SubtreeBound ps u)
-        → (u : ℕ) → 0 < u → u < 2 * c .leaves → SubtreeBound ps′ u
-    subtrees-move t d new f u k l = go (ℕ-discrete u t)
-      where
-        go : Dec (u ≡ t) → SubtreeBound ps′ u
-        go (yes e) = rw e (new (omega arith))
-        go (no n) =
-            let none : ind (eqb u t) ≡ 0 = rw (ne-eqb u t n) in
-            keep (inSubtree u) (omega (arith, d u k l)) (f u k l)
+    -- each counter changes against the number on its left
+    abbrev Paid : List ℕ → Type 0
+    Paid cs =
+        (v : ℕ) → 0 < v → v < c .leaves
+        → getD cs v 0 + ind (inSubtree (2 * v) x) ≡ counterAt s v + ind (inSubtree (2 * v) h)
 
-    -- at most the segments of leaf tj from ti + 1 on gain it
-    pub segments-move : (tj ti : ℕ)
-        → ((j i : ℕ) → j < c .leaves → i < c .segments → (j ≡ tj → i ≢ ti)
-        → ind (inSegments (c .leaves + j) (suc i) h) ≤ ind (inSegments (c .leaves + j) (suc i) (at ps p)))
-        → (tj < c .leaves → ti < c .segments → SegmentBound ps′ tj (suc ti))
-        → ((j i : ℕ) → j < c .leaves → i < c .segments → SegmentBound ps j (suc i))
-        → (j i : ℕ) → j < c .leaves → i < c .segments → SegmentBound ps′ j (suc i)
-    segments-move tj ti d new f j i k l = go (ℕ-discrete j tj) (ℕ-discrete i ti)
-      where
-        other : (j ≡ tj → i ≢ ti) → SegmentBound ps′ j (suc i)
-        other n = keep (inSegments (c .leaves + j) (suc i)) (d j i k l n) (f j i k l)
+    pub counters-move : (cs : List ℕ) → Paid cs → (v : ℕ) → 0 < v → v < c .leaves → CounterIs c (stored m x) cs v
+    counters-move cs paid v k l = omega (arith, paid v k l, inv m .bounds .counters v k l, counts m x (inSubtree (2 * v)))
 
-        go : Dec (j ≡ tj) → Dec (i ≡ ti) → SegmentBound ps′ j (suc i)
-        go (yes e) (yes e′) = rw (e, e′) (new (omega arith) (omega arith))
-        go (yes e) (no n) = other (λ _. n)
-        go (no n) q = other (λ e. absurd (n e))
-
-    pub counters-move : (cs cs′ : List ℕ)
-        → ((v : ℕ) → 0 < v → v < c .leaves → getD cs′ v 0 + ind (inSubtree (2 * v) h) ≡ getD cs v 0 + ind (inSubtree (2 * v) (at ps p)))
-        → ((v : ℕ) → 0 < v → v < c .leaves → CounterIs ps cs v)
-        → (v : ℕ) → 0 < v → v < c .leaves → CounterIs ps′ cs′ v
-    counters-move cs cs′ d f v k l = omega (arith, d v k l, f v k l, tally-set (c .processes) (inSubtree (2 * v)) ps p h len kp)
-
-    -- it enters no region
-    pub bounds-less : (cs cs′ : List ℕ)
-        → ((u : ℕ) → 0 < u → u < 2 * c .leaves → ind (inSubtree u h) ≤ ind (inSubtree u (at ps p)))
-        → ((u i : ℕ) → c .leaves ≤ u → ind (inSegments u (suc i) h) ≤ ind (inSegments u (suc i) (at ps p)))
-        → ((v : ℕ) → 0 < v → v < c .leaves → getD cs′ v 0 + ind (inSubtree (2 * v) h) ≡ getD cs v 0 + ind (inSubtree (2 * v) (at ps p)))
-        → Bounds ps cs → Bounds ps′ cs′
-    bounds-less cs cs′ a z d k =
+    -- it enters at most the subtree of t (0 for none)
+    pub bounds-move : (t : ℕ) (cs : List ℕ)
+        → ((u : ℕ) → 0 < u → u < 2 * c .leaves → ind (inSubtree u x) ≤ ind (inSubtree u h) + ind (eqb u t))
+        → (0 < t → SubtreeBound c M (stored m x) t)
+        → ((u i : ℕ) → c .leaves ≤ u → ind (inSegments u (suc i) x) ≤ ind (inSegments u (suc i) h))
+        → Paid cs
+        → Bounds c M (stored m x) cs
+    bounds-move t cs enters new segments paid =
         record {
-          subtrees = λ u u0 l. keep (inSubtree u) (a u u0 l) (k .subtrees u u0 l);
-          segments = λ j i l m. keep (inSegments (c .leaves + j) (suc i)) (z (c .leaves + j) i (omega arith)) (k .segments j i l m);
-          counters = counters-move cs cs′ d (k .counters);
+          subtrees = λ u k l. go u k l (ℕ-discrete u t);
+          segments = λ j i k l.
+              let u : ℕ = c .leaves + j in
+              bound-keeps (inSegments u (suc i)) (segments u i (omega arith)) (inv m .bounds .segments j i k l);
+          counters = counters-move cs paid;
         }
+      where
+        go : (u : ℕ) → 0 < u → u < 2 * c .leaves → Dec (u ≡ t) → SubtreeBound c M (stored m x) u
+        go u k l (yes e) = rw e (new (omega arith))
+        go u k l (no d) =
+            let none : ind (eqb u t) ≡ 0 = rw (ne-eqb u t d) in
+            bound-keeps (inSubtree u) (omega (arith, enters u k l)) (inv m .bounds .subtrees u k l)
 
-    -- it stays in its regions
-    pub bounds-same : (cs : List ℕ)
-        → ((u : ℕ) → ind (inSubtree u h) ≡ ind (inSubtree u (at ps p)))
-        → ((u i : ℕ) → ind (inSegments u i h) ≡ ind (inSegments u i (at ps p)))
-        → Bounds ps cs → Bounds ps′ cs
-    bounds-same cs a z k =
-        bounds-less cs cs (λ u _ _. omega (arith, a u)) (λ u i _. omega (arith, z u (suc i))) (λ v _ _. omega (arith, a (2 * v))) k
+    same : ((u : ℕ) → ind (inSubtree u x) ≡ ind (inSubtree u h)) → ((u i : ℕ) → ind (inSegments u i x) ≡ ind (inSegments u i h))
+        → Bounds c M (stored m x) (s .counters)
+    same a z =
+        bounds-move 0 (s .counters) (λ u _ _. omega (arith, a u)) (λ k. absurd (omega arith)) (λ u i _. omega (arith, z u (suc i)))
+        (λ v _ _. omega (arith, a (2 * v)))
+
+    pub stays-out : h .stage < getname → x .stage < getname → Bounds c M (stored m x) (s .counters)
+    stays-out a z =
+        same (λ u. omega (arith, subtree-out u x z, subtree-out u h a)) (λ u i. omega (arith, segments-out u i x z, segments-out u i h a))
+
+    pub stays-put : getname ≤ h .stage → getname ≤ x .stage → x .node ≡ h .node → x .segment ≡ h .segment
+        → Bounds c M (stored m x) (s .counters)
+    stays-put a z e f = same (λ u. subtree-same u h x a z e) (λ u i. segments-same u i h x a z e f)

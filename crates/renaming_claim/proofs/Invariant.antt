@@ -1,71 +1,216 @@
--- The invariant of every reachable state, with M any bound on how many were admitted at any moment so far.
---     Shape         what a process's own numbers say of each other, by its stage
---     Invariant     the shapes, the bounds of the regions, the bits and the gate
---     Reachable     besides: the state is in range, with arrays of their lengths
+-- The invariant of every reachable state, with M any bound on how many were admitted at any moment so far: all that it is made of, in
+-- the order of docs/PROOF.md, and no lemma.
+--     Shape        what a process's own numbers say of each other, by its stage
+--     Gate         the gate word, the queue, and who waits in it
+--     Bits         a bit is the number of processes that have its name
+--     Bounds       how many stand in each subtree, and at each leaf from a segment on; what each counter is
+--     Invariant    the four, of a state
 -- Assumes nothing.
-use mathlib.Core.Path.{_≡_}
-use mathlib.Core.Logic.{_≢_}
-use Prim.Native.Nat.{ℕ, zero, suc, _+_, _≤_, _<_}
-use Rattle.machine.specs.Setup.{Setup, height, log2}
-use Rattle.machine.specs.State.{none, setupOf, processAt, Sized}
+use mathlib.Core.List.{List, [], _∷_}
+use Prim.Native.Nat.{ℕ, suc, _+_, _*_, _-_, _≤_, _<_}
+use lib.Dec.{eqb, leb}
+use lib.IntN.{ℤ, pos, negsuc}
+use lib.ListN.{getD}
+use Rattle.machine.proofs.Rules.{_≡_, Bool, true, _≢_}
+use Rattle.machine.specs.Below.{sumBelow, indicator as ind}
+use Rattle.machine.specs.Operations.{bit}
+use Rattle.machine.specs.Setup.{names, height, log2}
+use Rattle.machine.specs.declared.Setup.{Setup}
+use Rattle.machine.specs.Stage.{waiting, getname, working}
+use Rattle.machine.specs.State.{none, noProcess, processAt}
 use Rattle.machine.specs.declared.Process.{Process}
 use Rattle.machine.specs.declared.State.{State}
-use Rattle.machine.proofs.Ranges.{Ranges}
-use Rattle.renaming_claim.proofs.Bits.{Bits}
-use Rattle.renaming_claim.proofs.Bounds.{Bounds}
-use Rattle.renaming_claim.proofs.Bounds.Segments.{Stands}
-use Rattle.renaming_claim.proofs.Gate.{Gate}
-use Rattle.renaming_claim.proofs.Names.{rank}
+use Rattle.renaming_claim.proofs.Facts.Computed.{_⊓_}
+use Rattle.renaming_claim.proofs.Facts.Tree.{under, width, firstLeaf}
 
-module _ (c : Setup) (M : ℕ) where
-  -- a process that has a name
-  pub record Held (h : Process) : Type 0 where
-    pub stands : Stands c h
-    pub low : rank c (h .name) < M
+-- the process at a place
+abbrev pub at : List Process → ℕ → Process
+at ps p = getD ps p noProcess
 
-  -- remainder: at node 1, segment 0, with no name
-  pub record Home (h : Process) : Type 0 where
-    pub root : h .node ≡ 1
-    pub flat : h .segment ≡ 0
-    pub nameless : h .name ≡ none
+-- how many processes pass a test
+unfoldable pub tally : Setup → (Process → Bool) → List Process → ℕ
+tally c test ps = sumBelow (c .processes) (λ p. ind (test (at ps p)))
 
-  -- entry and waiting: no step taken
-  pub record Entering (h : Process) : Type 0 where
-    pub home : Home h
-    pub steps : h .steps ≡ 0
+-- Every name is open here; the laws hold for any choice of open names.
+module _ (c : Setup) where
+  unfoldable pub isOpen : ℕ → Bool
+  isOpen m = true
 
-  -- getname: one step for each level and each segment
-  pub record Claiming (h : Process) : Type 0 where
-    pub nameless : h .name ≡ none
-    pub flat : h .node < c .leaves → h .segment ≡ 0
-    pub steps : h .steps ≡ log2 (h .node) + h .segment
+  -- the open names among n from a name on; the open names below a name
+  unfoldable pub openIn : ℕ → ℕ → ℕ
+  openIn from n = sumBelow n (λ m. ind (isOpen (from + m)))
 
-  -- working: the step that won besides
-  pub record Working (h : Process) : Type 0 where
-    pub named : h .name ≢ none
-    pub steps : h .steps ≡ height (c .leaves) + h .segment + 1
+  unfoldable pub rank : ℕ → ℕ
+  rank m = sumBelow m (λ i. ind (isOpen i))
 
-  -- by the stage; putname says no more than every stage, and nobody is exhausted
+-- SHAPES. What a process's own numbers say of each other. Said of numbers, so that it holds alike of two records that differ elsewhere.
+
+-- Outside the tree (stages 0 to 2): node 1, segment 0, no name.
+pub record HomeAt (node segment name : ℕ) : Type 0 where
+  pub root : node ≡ 1
+  pub flat : segment ≡ 0
+  pub nameless : name ≡ none
+
+-- In stages 1 and 2 besides: no step taken.
+pub record EnteringAt (node segment name taken : ℕ) : Type 0 where
+  pub home : HomeAt node segment name
+  pub steps : taken ≡ 0
+
+module _ (c : Setup) where
+  -- In getname: no name, segment 0 above the leaves, steps = depth + segment.
+  pub record ClaimingAt (node segment name taken : ℕ) : Type 0 where
+    pub nameless : name ≡ none
+    pub flat : node < c .leaves → segment ≡ 0
+    pub steps : taken ≡ log2 node + segment
+
+  -- Working: with a name, steps = h + segment + 1.
+  pub record WorkingAt (segment name taken : ℕ) : Type 0 where
+    pub named : name ≢ none
+    pub steps : taken ≡ height (c .leaves) + segment + 1
+
+  -- By the stage; putname says no more than every stage, and nobody is exhausted.
+  abbrev pub StageAt : ℕ → ℕ → ℕ → ℕ → ℕ → Type 0
+  StageAt stage node segment name taken =
+      getD
+      (HomeAt node segment name
+      ∷ EnteringAt node segment name taken
+      ∷ EnteringAt node segment name taken
+      ∷ ClaimingAt node segment name taken
+      ∷ WorkingAt segment name taken
+      ∷ Unit {0}
+      ∷ [])
+      stage
+      ⊥
+
+  -- With a name: working or returning it, at a leaf, in the segment of its name.
+  pub record StandsAt (stage node segment name : ℕ) : Type 0 where
+    pub busy : working ≤ stage
+    pub leaf : c .leaves ≤ node
+    pub mark : ℕ
+    pub within : mark < c .bits
+    pub is : name ≡ ((node - c .leaves) * c .segments + segment) * c .bits + mark
+
+  -- With a name in any stage: fewer than M names lie below it. In any stage: at most h + g steps.
+  pub record ShapeAt (M stage node segment name taken : ℕ) : Type 0 where
+    pub stands : name ≢ none → StandsAt stage node segment name
+    pub low : name ≢ none → rank c name < M
+    pub most : taken ≤ height (c .leaves) + c .segments
+    pub by : StageAt stage node segment name taken
+
+  -- the same of a process
+  abbrev pub Claiming : Process → Type 0
+  Claiming h = ClaimingAt (h .node) (h .segment) (h .name) (h .steps)
+
+  abbrev pub Working : Process → Type 0
+  Working h = WorkingAt (h .segment) (h .name) (h .steps)
+
   abbrev pub ByStage : ℕ → Process → Type 0
-  ByStage zero h = Home h
-  ByStage (suc zero) h = Entering h
-  ByStage (suc (suc zero)) h = Entering h
-  ByStage (suc (suc (suc zero))) h = Claiming h
-  ByStage (suc (suc (suc (suc zero)))) h = Working h
-  ByStage (suc (suc (suc (suc (suc zero))))) h = Unit {0}
-  ByStage (suc (suc (suc (suc (suc (suc n)))))) h = ⊥
+  ByStage stage h = StageAt stage (h .node) (h .segment) (h .name) (h .steps)
 
-  pub record Shape (h : Process) : Type 0 where
-    pub held : h .name ≢ none → Held h
-    pub most : h .steps ≤ height (c .leaves) + c .segments
-    pub by : ByStage (h .stage) h
+  abbrev pub Stands : Process → Type 0
+  Stands h = StandsAt (h .stage) (h .node) (h .segment) (h .name)
+
+  abbrev pub Shape : ℕ → Process → Type 0
+  Shape M h = ShapeAt M (h .stage) (h .node) (h .segment) (h .name) (h .steps)
+
+abbrev pub Home : Process → Type 0
+Home h = HomeAt (h .node) (h .segment) (h .name)
+
+abbrev pub Entering : Process → Type 0
+Entering h = EnteringAt (h .node) (h .segment) (h .name) (h .steps)
+
+-- GATE. The gate word is k less the number of processes in stage 2 or later, and the queue has one place for each that it fell below
+-- 0. Nobody stands in the queue twice, and whoever does is in stage 2.
+
+-- in stage 2 or later: past the gate, or in its queue
+unfoldable pub beyond : Process → Bool
+beyond h = leb waiting (h .stage)
+
+-- how often a process stands among the first n of the queue
+unfoldable pub occurs : List ℕ → ℕ → ℕ → ℕ
+occurs q n p = sumBelow n (λ i. ind (eqb (getD q i 0) p))
+
+module _ (c : Setup) where
+  abbrev pub allOpen : ℕ
+  allOpen = openIn c 0 (names c)
+
+  -- the gate word, with so many in stage 2 or later and so many queued
+  abbrev pub GateWord : ℤ → ℕ → ℕ → Type 0
+  GateWord (pos a) count n = (count + a ≡ allOpen) × (n ≡ 0)
+  GateWord (negsuc a) count n = (allOpen + suc a ≡ count) × (n ≡ suc a)
+
+  pub record Gate (ps : List Process) (a : ℤ) (n : ℕ) (q : List ℕ) : Type 0 where
+    pub word : GateWord a (tally c beyond ps) n
+    pub queue : (p : ℕ) → occurs q n p ≤ ind (eqb (at ps p .stage) waiting)
+
+-- BITS. For each bit, the number of processes that have its name is the bit: 0 or 1.
+
+unfoldable pub hasName : ℕ → Process → Bool
+hasName m h = eqb (h .name) m
+
+module _ (c : Setup) where
+  abbrev pub words : ℕ
+  words = c .leaves * c .segments
+
+  pub record Bits (ps : List Process) (ws : List ℕ) : Type 0 where
+    pub told : (r m : ℕ) → r < words → m < c .bits → tally c (hasName (r * c .bits + m)) ps ≡ bit (getD ws r 0) m
+
+-- BOUNDS. Processes are counted by where they stand, not by what they hold: in the subtree of node u, C(u); at leaf j in segment i or a
+-- later one, R(j, i).
+
+-- in getname or later, at a node of the subtree of u; at node u, in segment i or a later one
+unfoldable pub inSubtree : ℕ → Process → Bool
+inSubtree u h = leb getname (h .stage) ⊓ under u (h .node)
+
+unfoldable pub inSegments : ℕ → ℕ → Process → Bool
+inSegments u i h = leb getname (h .stage) ⊓ (eqb u (h .node) ⊓ leb i (h .segment))
+
+module _ (c : Setup) where
+  -- the first name under a node, and how many
+  abbrev pub leafNames : ℕ
+  leafNames = c .segments * c .bits
+
+  unfoldable pub nodeFirst : ℕ → ℕ
+  nodeFirst u = firstLeaf (c .leaves) u * leafNames
+
+  unfoldable pub nodeCount : ℕ → ℕ
+  nodeCount u = width (c .leaves) u * leafNames
+
+  -- the first name of segment i of leaf j, and how many from there to the leaf's end
+  abbrev pub segmentFirst : ℕ → ℕ → ℕ
+  segmentFirst j i = (j * c .segments + i) * c .bits
+
+  abbrev pub segmentCount : ℕ → ℕ
+  segmentCount i = (c .segments - i) * c .bits
+
+  module _ (M : ℕ) where
+    -- at most the names of the region, and at most those of the M lowest that lie past its start
+    pub record Bound (count from n : ℕ) : Type 0 where
+      pub cap : count ≤ openIn c from n
+      pub top : count ≤ M - rank c from
+
+    -- C(u) ≤ names under u, and ≤ M - (first name under u)
+    abbrev pub SubtreeBound : List Process → ℕ → Type 0
+    SubtreeBound ps u = Bound (tally c (inSubtree u) ps) (nodeFirst u) (nodeCount u)
+
+    -- R(j, i) ≤ names from segment i on, and ≤ M - (first name of segment i)
+    abbrev pub SegmentBound : List Process → ℕ → ℕ → Type 0
+    SegmentBound ps j i = Bound (tally c (inSegments (c .leaves + j) i) ps) (segmentFirst j i) (segmentCount i)
+
+  -- counter of v + C(left child of v) = names under the left child of v
+  abbrev pub CounterIs : List Process → List ℕ → ℕ → Type 0
+  CounterIs ps cs v = getD cs v 0 + tally c (inSubtree (2 * v)) ps ≡ openIn c (nodeFirst (2 * v)) (nodeCount (2 * v))
+
+  -- of every node, of every leaf from segment 1 on (segment 0 is the leaf's own bound), and of every node above the leaves
+  pub record Bounds (M : ℕ) (ps : List Process) (cs : List ℕ) : Type 0 where
+    pub subtrees : (u : ℕ) → 0 < u → u < 2 * c .leaves → SubtreeBound M ps u
+    pub segments : (j i : ℕ) → j < c .leaves → i < c .segments → SegmentBound M ps j (suc i)
+    pub counters : (v : ℕ) → 0 < v → v < c .leaves → CounterIs ps cs v
+
+-- THE INVARIANT.
 
 pub record Invariant (M : ℕ) (s : State) : Type 0 where
-  pub shapes : (p : ℕ) → p < s .processes → Shape (setupOf s) M (processAt s p)
-  pub bounds : Bounds (setupOf s) M (s .process) (s .counters)
-  pub bits : Bits (setupOf s) (s .process) (s .words)
-  pub gate : Gate (setupOf s) (s .process) (s .gate) (s .queued) (s .queue)
-
-pub record Reachable (s : State) : Type 0 where
-  pub ranges : Ranges s
-  pub sized : Sized s
+  pub shapes : (p : ℕ) → p < s .setup .processes → Shape (s .setup) M (processAt s p)
+  pub gate : Gate (s .setup) (s .process) (s .gate) (s .queued) (s .queue)
+  pub bits : Bits (s .setup) (s .process) (s .words)
+  pub bounds : Bounds (s .setup) M (s .process) (s .counters)

@@ -1,198 +1,157 @@
 -- What an event does to a process's own record: a getname step is never refused and adds 1 to its steps; a request sets them to 0; no
--- other event changes them; and nothing but a step moves a process that is in getname.
---     claim-accepted    a step in getname is accepted
---     event-steps       the steps after an event
---     claim-next        after a step in getname: still there, or working
---     claim-waits       after any other event: as it was
+-- other event changes them; and nothing but a step moves a process that is in getname. By the cases of Own.
+--     event-steps    the steps after an event
+--     claim-steps, claim-next    after a step in getname: one more, and still there or working
+--     claim-waits    after any other event: as it was
 -- Assumes nothing.
-use mathlib.Core.Path.{_≡_, refl, sym, ap, _∙_}
-use mathlib.Core.Logic.{_≢_, _⊎_, inl, inr}
-use mathlib.Core.Bool.{Bool, true, false, cond, _&&_, and-false, true≢false}
-use mathlib.Core.List.{List}
-use Prim.Native.Nat.{ℕ, suc, _+_, _/_, _%_, _<_}
+use Prim.Native.Nat.{ℕ, suc, _<_}
 use native.Mathlib.Decide.{ℕ-discrete}
 use native.Mathlib.Numerals.{add-one}
-use native.Mathlib.Omega.{arith}
-use lib.Dec.{eqb, ltb}
-use lib.ListN.{length, getD}
-use lib.Seq.{getD-set-same}
-use borrow.Author.Tests.{eq-eqb, ne-eqb, eqb-true, lt-ltb}
-use Rattle.machine.specs.Event.{event, step, guarded}
-use Rattle.machine.specs.Gate.{above0, inQueue, lowered, raised, joined, headGone, enter, await, leave}
-use Rattle.machine.specs.Getname.{claimed, side, outcome, segmentOf, descend, probe, getnameStep}
+use lib.Dec.{eqb}
+use Rattle.machine.proofs.Rules.{sym, _≡_, _∙_, ap, refl, true≢false, cond, false, Bool, true, _&&_, and-false, _≢_, inl, _⊎_, inr, arith, eq-eqb, eqb-true, lt-ltb, ne-eqb}
+use Rattle.machine.specs.Event.{event, guarded}
+use Rattle.machine.specs.Event.{step as Event·step}
+use Rattle.machine.specs.Kind.{request, step}
+use Rattle.machine.specs.Getname.{claimed, getnameStep}
 use Rattle.machine.specs.Lists.{Event, eventDone}
-use Rattle.machine.specs.Operations.{setFirstZero, clrBit, boundedDecrement}
-use Rattle.machine.specs.Putname.{giveBack, climb, putnameStep}
 use Rattle.machine.specs.Range.{inRange}
-use Rattle.machine.specs.Stage.{remainder, entry, waiting, getname, putname}
-use Rattle.machine.specs.State.{done, none, noProcess, freshProcess, withStage, withNode, withSegment, withName, processAt, counterAt, wordAt, withCounter, withWord, withProcess, update}
+use Rattle.machine.specs.Stage.{getname, working, exhausted}
+use Rattle.machine.specs.State.{done}
 use Rattle.machine.specs.declared.ClaimStep.{ClaimStep}
 use Rattle.machine.specs.declared.ClaimStep.the-variants.{Left, Right, Won, NextSegment, Exhausted}
 use Rattle.machine.specs.declared.Done.{Done}
-use Rattle.machine.specs.declared.Process.{Process}
-use Rattle.machine.specs.declared.State.{State}
-use Rattle.machine.proofs.Facts.Tests.{by-cond}
+use Rattle.machine.proofs.Facts.Tests.{and-left, and-right}
 use Rattle.machine.proofs.Laws.OnePlace.{others-unchanged}
 use Rattle.machine.proofs.Laws.Room.Getname.{getname-room}
-use Rattle.machine.proofs.Moves.{requests, enters, awaits, claims, returns, stays, releases, Outcome, refuses, accepts, event-outcome}
+use Rattle.machine.proofs.Moves.{Outcome, refuses, accepts, event-outcome}
+use Rattle.machine.proofs.Own.{Own, asks, queues, passes, waits, steps, ends, gives, climbs-left, climbs-right, leaves, strays}
+use Rattle.machine.proofs.Own.{getname-is, move-became}
 use Rattle.machine.proofs.Ranges.{in-range}
 use Rattle.renaming_claim.specs.History.{stepOf, requestOf, claimOf}
 use Rattle.renaming_claim.proofs.Facts.Tree.{height-four}
-use Rattle.renaming_claim.proofs.Mover.{Mover, shape, processes-fit}
+use Rattle.renaming_claim.proofs.Mover.{Setup, Process, State, processAt, Mover, shape, limits}
 
 module _ {M : ℕ} {s : State} {p : ℕ} (m : Mover M s p) where
+  abbrev c : Setup
+  c = s .setup
+
   abbrev h : Process
   h = processAt s p
 
-  -- what is stored for p stands at its place
-  own : (t : State) (x : Process) → length (t .process) ≡ length (s .process) → processAt (withProcess p x t) p ≡ x
-  own t x e = getD-set-same (t .process) p x noProcess (omega (arith, processes-fit m, m .known))
-
-  -- the height is at most 4 and the segments at most 8, so that a byte holds the steps
-  few-steps : h .steps < 255
-  few-steps =
-      omega (arith, shape m .most, height-four (s .leaves) (m .reach .ranges .limits .leaves), m .reach .ranges .limits .g8)
-
-  pub claim-accepted : h .stage ≡ 3 → event s 1 p ≡ done 0 (getnameStep s p)
-  unfolding event step guarded
-  claim-accepted e =
-      let room : inRange (getnameStep s p) ≡ true
-      = getname-room s p (m .reach .ranges) (m .known) (m .reach .sized .process) ∙ lt-ltb (h .steps) 255 few-steps in
-      simp (in-range s (m .reach .ranges), lt-ltb p (s .processes) (m .known), e, room)
-
-  -- p's steps in t, and where t has p's record changed by f
+  -- p's steps in t
   abbrev stepsIn : State → ℕ
   stepsIn t = processAt t p .steps
 
-  stored : (t : State) (x : Process) → length (t .process) ≡ length (s .process) → stepsIn (withProcess p x t) ≡ x .steps
-  stored t x e = ap (λ (y : Process). y .steps) (own t x e)
+  stepped : (k : ClaimStep) × (processAt (getnameStep s p) p ≡ claimed k h)
+  stepped = getname-is (m .sound .valid) (m .known)
 
-  enter-steps : stepsIn (enter s p) ≡ h .steps
-  unfolding enter
-  enter-steps =
-      by-cond (λ (t : State). stepsIn t ≡ h .steps) (above0 (s .gate))
-      (λ _. stored (lowered s) (withStage getname h) refl)
-      (λ _. stored (joined p (lowered s)) (withStage waiting h) refl)
+  -- the height is at most 4 and the segments at most 8, so that a byte holds the steps
+  few-steps : h .steps < 255
+  few-steps = omega (arith, shape m .most, height-four (c .leaves) (limits m .leaves), limits m .g8)
 
-  await-steps : stepsIn (await s p) ≡ h .steps
-  unfolding await
-  await-steps =
-      by-cond (λ (t : State). stepsIn t ≡ h .steps) (inQueue s p) (λ _. refl) (λ _. stored s (withStage getname h) refl)
+  -- a step in getname is accepted
+  claim-accepted : h .stage ≡ getname → event s step p ≡ done 0 (getnameStep s p)
+  unfolding event Event·step guarded
+  claim-accepted e =
+      let ranges = m .sound .valid .ranges in
+      let room : inRange (getnameStep s p) ≡ true
+      = getname-room s p ranges (m .known) (m .sound .valid .sized .process) ∙ lt-ltb (h .steps) 255 few-steps in
+      simp (in-range s ranges, lt-ltb p (c .processes) (m .known), e, room)
 
-  -- a getname step, by what it does
-  module _ (t : State) (k : ClaimStep) (e : t .process ≡ s .process) where
-    claimed-is : processAt (update p (claimed k) t) p ≡ claimed k h
-    claimed-is = own t (claimed k (processAt t p)) (ap length e) ∙ ap (λ (ps : List Process). claimed k (getD ps p noProcess)) e
+  module _ (st : h .stage ≡ getname) (e : Event) where
+    abbrev t : State
+    t = eventDone s e .state
 
-  getname-is : (k : ClaimStep) × (processAt (getnameStep s p) p ≡ claimed k h)
-  unfolding getnameStep descend probe
-  getname-is = go (ltb (h .node) (s .leaves))
+    claim-is : stepOf p e ≡ true → t ≡ getnameStep s p
+    claim-is i =
+        let own : e .process ≡ p = eqb-true _ _ (and-left (eqb (e .process) p) (eqb (e .kind) step) i) in
+        let is-step : e .kind ≡ step = eqb-true _ _ (and-right (eqb (e .process) p) (eqb (e .kind) step) i) in
+        ap (λ (d : Done). d .state) (ap (event s (e .kind)) own ∙ ap (λ (kind : ℕ). event s kind p) is-step ∙ claim-accepted st)
+
+    pub claim-steps : stepOf p e ≡ true → stepsIn t ≡ suc (h .steps)
+    claim-steps i = rw (claim-is i) (ap (λ (x : Process). x .steps) (stepped .1) ∙ add-one (h .steps))
+
+    -- nothing else is left by the invariant
+    pub claim-next : stepOf p e ≡ true → processAt t p .stage ≢ exhausted
+        → (processAt t p .stage ≡ working) ⊎ (processAt t p .stage ≡ getname)
+    claim-next i there = go (stepped .0) (rw (claim-is i) (ap (λ (x : Process). x .stage) (stepped .1)))
+      where
+        go : (k : ClaimStep) → processAt t p .stage ≡ claimed k h .stage
+            → (processAt t p .stage ≡ working) ⊎ (processAt t p .stage ≡ getname)
+        go (Left u) is = inr (is ∙ st)
+        go (Right u) is = inr (is ∙ st)
+        go (Won n) is = inl is
+        go (NextSegment n) is = inr (is ∙ st)
+        go Exhausted is = absurd (there is)
+
+    pub claim-waits : stepOf p e ≡ false → processAt t p ≡ h
+    claim-waits off = go (ℕ-discrete (e .process) p)
+      where
+        -- a claiming process is neither asking nor working
+        kept : {kind : ℕ} {x : Process} → Own (s .gate) h kind x → kind ≢ step → x ≡ h
+        kept (asks i) n = absurd (omega arith)
+        kept (queues i shut) n = absurd (n refl)
+        kept (passes low high) n = absurd (n refl)
+        kept (waits i) n = refl
+        kept (steps i k) n = absurd (n refl)
+        kept (ends i) n = absurd (omega arith)
+        kept (gives i d) n = absurd (n refl)
+        kept (climbs-left i d l even) n = absurd (n refl)
+        kept (climbs-right i d l odd) n = absurd (n refl)
+        kept (leaves i d l) n = absurd (n refl)
+        kept (strays i) n = refl
+
+        same : {kind : ℕ} {d : Done} → Outcome s kind p d → kind ≢ step → processAt (d .state) p ≡ h
+        same (refuses a k) n = refl
+        same (accepts k kp mv r) n = let b = move-became (m .sound .valid) (m .known) mv in b .is ∙ kept (b .by) n
+
+        go : Dec (e .process ≡ p) → processAt t p ≡ h
+        go (no i) = others-unchanged s (e .kind) (e .process) p (λ q. i (sym q))
+        go (yes i) =
+            let no-step : e .kind ≢ step = λ k. true≢false (sym (rw (eq-eqb (e .process) p i, eq-eqb (e .kind) step k)) ∙ off) in
+            rw i (same (event-outcome s (e .kind) p) no-step)
+
+  -- one event of p with answer a: the steps follow the tests of History
+  abbrev counted : ℕ → ℕ → ℕ
+  counted kind a = cond (eqb kind request && eqb a 0) 0 (cond (eqb kind step && eqb (h .stage) getname) (suc (h .steps)) (h .steps))
+
+  refused-steps : (kind a : ℕ) → 0 < a → (kind ≡ step → h .stage ≡ getname → a ≡ 0) → h .steps ≡ counted kind a
+  refused-steps kind a k accepted =
+      rw (ne-eqb a 0 (λ e. omega arith), and-false (eqb kind request)) (go (eqb kind step) (eqb (h .stage) getname) refl refl)
     where
-      v : ℕ
-      v = h .node
-
-      r : ℕ
-      r = segmentOf s h
-
-      go : (b : Bool) → (k : ClaimStep) × (processAt (cond b (descend s p) (probe s p)) p ≡ claimed k h)
-      go true =
-          let k : ClaimStep = side v (boundedDecrement (counterAt s v) .answer) in
-          (k, claimed-is (withCounter v (boundedDecrement (counterAt s v) .word) s) k refl)
-      go false =
-          let w = setFirstZero (s .bits) (wordAt s r) in
-          let k : ClaimStep = outcome (s .segments) (s .bits) r (h .segment) (w .answer) in
-          (k, claimed-is (withWord r (w .word) s) k refl)
-
-  pub getname-steps : stepsIn (getnameStep s p) ≡ suc (h .steps)
-  getname-steps = ap (λ (x : Process). x .steps) (getname-is .1) ∙ add-one (h .steps)
-
-  putname-steps : stepsIn (putnameStep s p) ≡ h .steps
-  unfolding putnameStep giveBack climb leave
-  putname-steps =
-      let u : ℕ = h .node / 2 in
-      let r : ℕ = h .name / s .bits in
-      by-cond (λ (t : State). stepsIn t ≡ h .steps) (eqb (h .name) none)
-      (λ _.
-      by-cond (λ (t : State). stepsIn t ≡ h .steps) (ltb 1 (h .node))
-      (λ _.
-      by-cond (λ (t : State). stepsIn (update p (withNode u) t) ≡ h .steps) (eqb (h .node % 2) 0)
-      (λ _. stored (withCounter u (counterAt s u + 1) s) (withNode u h) refl)
-      (λ _. stored s (withNode u h) refl))
-      (λ _. unfold headGone in stored (raised (headGone s)) (withStage remainder (withSegment 0 h)) refl))
-      (λ _. stored (withWord r (clrBit (wordAt s r) (h .name % s .bits)) s) (withName none h) refl)
-
-  -- after a step in getname it is there still, or working; nothing else is left by the invariant
-  pub claim-next : h .stage ≡ 3 → processAt (getnameStep s p) p .stage ≢ 6 → (processAt (getnameStep s p) p .stage ≡ 4) ⊎ (processAt (getnameStep s p) p .stage ≡ 3)
-  claim-next e not6 = go (getname-is .0) (ap (λ (x : Process). x .stage) (getname-is .1))
-    where
-      go : (k : ClaimStep) → processAt (getnameStep s p) p .stage ≡ claimed k h .stage
-          → (processAt (getnameStep s p) p .stage ≡ 4) ⊎ (processAt (getnameStep s p) p .stage ≡ 3)
-      go (Left u) i = inr (i ∙ e)
-      go (Right u) i = inr (i ∙ e)
-      go (Won n) i = inl i
-      go (NextSegment n) i = inr (i ∙ e)
-      go Exhausted i = absurd (not6 i)
-
-  claim-steps : h .stage ≡ 3 → stepsIn (event s 1 p .state) ≡ suc (h .steps)
-  claim-steps e = ap (λ (d : Done). stepsIn (d .state)) (claim-accepted e) ∙ getname-steps
-
-  -- one event of p: the steps follow the tests of History
-  module _ (kind : ℕ) where
-    abbrev counted : ℕ → ℕ
-    counted a = cond (eqb kind 0 && eqb a 0) 0 (cond (eqb kind 1 && eqb (h .stage) 3) (suc (h .steps)) (h .steps))
-
-  refused-steps : (kind a : ℕ) → 0 < a → (kind ≡ 1 → h .stage ≢ 3) → h .steps ≡ counted kind a
-  refused-steps kind a k d =
-      rw (ne-eqb a 0 (λ e. omega arith), and-false (eqb kind 0)) (go (eqb kind 1) (eqb (h .stage) 3) refl refl)
-    where
-      go : (x y : Bool) → eqb kind 1 ≡ x → eqb (h .stage) 3 ≡ y → h .steps ≡ cond (x && y) (suc (h .steps)) (h .steps)
-      go true true e f = absurd (d (eqb-true kind 1 e) (eqb-true (h .stage) 3 f))
+      go : (x y : Bool) → eqb kind step ≡ x → eqb (h .stage) getname ≡ y → h .steps ≡ cond (x && y) (suc (h .steps)) (h .steps)
+      go true true e f = absurd (omega (arith, accepted (eqb-true kind step e) (eqb-true (h .stage) getname f)))
       go true false e f = refl
       go false y e f = refl
 
-  -- of an event that is no step in getname
-  outcome-steps : {kind : ℕ} {d : Done} → Outcome s kind p d → (kind ≡ 1 → h .stage ≢ 3) → stepsIn (d .state) ≡ counted kind (d .answer)
-  outcome-steps {kind} (refuses a k) d = refused-steps kind a k d
-  outcome-steps (accepts k kp (requests e) i) d = stored s (withStage entry freshProcess) refl
-  outcome-steps (accepts k kp (enters e) i) d = rw e enter-steps
-  outcome-steps (accepts k kp (awaits e) i) d = rw e await-steps
-  outcome-steps (accepts k kp (claims e) i) d = absurd (d refl e)
-  outcome-steps (accepts k kp (returns e) i) d = rw e putname-steps
-  outcome-steps (accepts k kp (stays e) i) d = rw e
-  outcome-steps (accepts k kp (releases e) i) d = stored s (withStage putname h) refl
+  became-steps : {kind : ℕ} {x : Process} → Own (s .gate) h kind x → x .steps ≡ counted kind 0
+  became-steps (asks e) = refl
+  became-steps (queues e shut) = rw e
+  became-steps (passes low high) = rw (ne-eqb (h .stage) getname (λ z. omega arith))
+  became-steps (waits e) = rw e
+  became-steps (steps e k) = rw e (add-one (h .steps))
+  became-steps (ends e) = refl
+  became-steps (gives e n) = rw e
+  became-steps (climbs-left e n l even) = rw e
+  became-steps (climbs-right e n l odd) = rw e
+  became-steps (leaves e n l) = rw e
+  became-steps (strays e) = rw e
 
-  event-own : (kind : ℕ) → stepsIn (event s kind p .state) ≡ counted kind (event s kind p .answer)
-  event-own kind = go (ℕ-discrete kind 1) (ℕ-discrete (h .stage) 3)
-    where
-      go : Dec (kind ≡ 1) → Dec (h .stage ≡ 3) → stepsIn (event s kind p .state) ≡ counted kind (event s kind p .answer)
-      go (yes e) (yes f) = rw (e, f) (claim-steps f)
-      go (yes e) (no f) = outcome-steps (event-outcome s kind p) (λ _. f)
-      go (no e) f = outcome-steps (event-outcome s kind p) (λ i. absurd (e i))
+  outcome-steps : {kind : ℕ} {d : Done} → Outcome s kind p d → (kind ≡ step → h .stage ≡ getname → d .answer ≡ 0)
+      → stepsIn (d .state) ≡ counted kind (d .answer)
+  outcome-steps {kind} (refuses a k) accepted = refused-steps kind a k accepted
+  outcome-steps (accepts k kp mv i) _ =
+      let b = move-became (m .sound .valid) (m .known) mv in ap (λ (x : Process). x .steps) (b .is) ∙ became-steps (b .by)
 
-  pub event-steps : (e : Event) → stepsIn (eventDone s e .state) ≡ cond (requestOf p s e) 0 (cond (claimOf p s e) (suc (h .steps)) (h .steps))
+  own-steps : (kind : ℕ) → stepsIn (event s kind p .state) ≡ counted kind (event s kind p .answer)
+  own-steps kind = outcome-steps (event-outcome s kind p) (λ e f. rw e (ap (λ (d : Done). d .answer) (claim-accepted f)))
+
+  pub event-steps : (e : Event)
+      → stepsIn (eventDone s e .state) ≡ cond (requestOf p s e) 0 (cond (claimOf p s e) (suc (h .steps)) (h .steps))
   event-steps e = go (ℕ-discrete (e .process) p)
     where
-      go : Dec (e .process ≡ p) → stepsIn (eventDone s e .state) ≡ cond (requestOf p s e) 0 (cond (claimOf p s e) (suc (h .steps)) (h .steps))
-      go (yes i) = rw (i, eq-eqb p p refl) (event-own (e .kind))
+      go : Dec (e .process ≡ p)
+          → stepsIn (eventDone s e .state) ≡ cond (requestOf p s e) 0 (cond (claimOf p s e) (suc (h .steps)) (h .steps))
+      go (yes i) = rw (i, eq-eqb p p refl) (own-steps (e .kind))
       go (no i) =
           rw (ne-eqb (e .process) p i) (ap (λ (x : Process). x .steps) (others-unchanged s (e .kind) (e .process) p (λ t. i (sym t))))
-
-  -- an event that is no step of p leaves p as it is, in getname
-  pub claim-waits : h .stage ≡ 3 → (e : Event) → stepOf p e ≡ false → processAt (eventDone s e .state) p ≡ h
-  claim-waits st e off = go (ℕ-discrete (e .process) p)
-    where
-      same : {kind : ℕ} {d : Done} → Outcome s kind p d → kind ≢ 1 → processAt (d .state) p ≡ h
-      same (refuses a k) n = refl
-      same (accepts k kp (requests i) r) n = absurd (omega arith)
-      same (accepts k kp (enters i) r) n = absurd (n refl)
-      same (accepts k kp (awaits i) r) n = absurd (n refl)
-      same (accepts k kp (claims i) r) n = absurd (n refl)
-      same (accepts k kp (returns i) r) n = absurd (n refl)
-      same (accepts k kp (stays i) r) n = absurd (n refl)
-      same (accepts k kp (releases i) r) n = absurd (omega arith)
-
-      go : Dec (e .process ≡ p) → processAt (eventDone s e .state) p ≡ h
-      go (no i) = others-unchanged s (e .kind) (e .process) p (λ t. i (sym t))
-      go (yes i) =
-          let kind-off : e .kind ≢ 1 = λ k. true≢false (sym (rw (eq-eqb (e .process) p i, eq-eqb (e .kind) 1 k)) ∙ off) in
-          rw i (same (event-outcome s (e .kind) p) kind-off)

@@ -1,5 +1,5 @@
--- Demand 3: what holds after every list of events from an accepted setup of N processes (handsets), L leaves, g segments (rows)
--- and b bits. A list has any length and its events are any two numbers, refused ones included. The machine is fed the four
+-- Demand 3: what holds after every list of events from an accepted setup c of N processes (handsets), L leaves, g segments
+-- (rows) and b bits. A list has any length and its events are any two numbers, refused ones included. The machine is fed the four
 -- numbers and the events alone; its stages say who is admitted (let in), in getname (claiming), working (holding) or exhausted
 -- (astray).
 use mathlib.Core.Path.{_≡_}
@@ -13,41 +13,45 @@ use Rattle.machine.specs.Setup.{setupAnswer, names, height}
 use Rattle.machine.specs.Stage.{getname, working, exhausted}
 use Rattle.machine.specs.State.{processAt, fresh}
 use Rattle.machine.specs.declared.Process.{Process}
+use Rattle.machine.specs.declared.Setup.{Setup}
 use Rattle.machine.specs.declared.State.{State}
 use Rattle.renaming_claim.specs.History.{claimSteps, stepsGiven, HoldsWithin}
 
 -- the machine's state after a list
-abbrev pub afterList : ℕ → ℕ → ℕ → ℕ → List Event → State
-afterList n l g b es = after (fresh n l g b) es
+abbrev pub afterList : Setup → List Event → State
+afterList c es = after (fresh c) es
 
 -- said of what gives the state after a list and after each of its prefixes: the machine, or the calls (crate whole_list)
-module _ (n l g b : ℕ) (stateAfter : List Event → State) where
+module _ (c : Setup) (stateAfter : List Event → State) where
   abbrev pub processAfter : List Event → ℕ → Process
   processAfter es p = processAt (stateAfter es) p
 
   pub record Claim (es : List Event) : Type 0 where
     -- At most k handsets are let in.
-    pub admitted-k : admitted (stateAfter es) ≤ names l g b
+    pub admitted-k : admitted (stateAfter es) ≤ names c
     -- Holders' pads are below k
-    pub held-below : (p : ℕ) → p < n → processAfter es p .stage ≡ working → processAfter es p .name < names l g b
+    pub held-below : (p : ℕ) → p < c .processes → processAfter es p .stage ≡ working → processAfter es p .name < names c
     -- and all unlike.
-    pub held-unlike : (p q : ℕ) → p < n → q < n → p ≢ q → processAfter es p .stage ≡ working → processAfter es q .stage ≡ working
+    pub held-unlike : (p q : ℕ) → p < c .processes → q < c .processes → p ≢ q → processAfter es p .stage ≡ working
+        → processAfter es q .stage ≡ working
         → processAfter es p .name ≢ processAfter es q .name
     -- No handset is astray.
-    pub none-astray : (p : ℕ) → p < n → processAfter es p .stage ≢ exhausted
+    pub none-astray : (p : ℕ) → p < c .processes → processAfter es p .stage ≢ exhausted
     -- If at no moment in the list (its start, and directly after each event) were more than m let in, every held pad is below m.
     pub held-low : (m : ℕ) → ((i : ℕ) → i ≤ length es → admitted (stateAfter (take i es)) ≤ m)
-        → (p : ℕ) → p < n → processAfter es p .stage ≡ working → processAfter es p .name < m
+        → (p : ℕ) → p < c .processes → processAfter es p .stage ≡ working → processAfter es p .name < m
     -- Each handset's spent is the number of its claim turns since its last accepted ask; before its first there are none.
-    pub steps-counted : (p : ℕ) → p < n → processAfter es p .steps ≡ claimSteps p (fresh n l g b) es 0
+    pub steps-counted : (p : ℕ) → p < c .processes → processAfter es p .steps ≡ claimSteps p (fresh c) es 0
     -- A holder's is at least h + 1 and at most h + g.
-    pub steps-least : (p : ℕ) → p < n → processAfter es p .stage ≡ working → height l + 1 ≤ processAfter es p .steps
-    pub steps-most : (p : ℕ) → p < n → processAfter es p .stage ≡ working → processAfter es p .steps ≤ height l + g
+    pub steps-least : (p : ℕ) → p < c .processes → processAfter es p .stage ≡ working → height (c .leaves) + 1 ≤ processAfter es p .steps
+    pub steps-most : (p : ℕ) → p < c .processes → processAfter es p .stage ≡ working
+        → processAfter es p .steps ≤ height (c .leaves) + c .segments
     -- Whatever events follow, once a handset that is claiming after the list has been given h + g more turns, it held a pad
     -- directly after one of them.
-    pub wins : (p : ℕ) → p < n → processAfter es p .stage ≡ getname → (fs : List Event) → height l + g ≤ stepsGiven p fs
-        → HoldsWithin (height l + g) (after (stateAfter es)) p fs
+    pub wins : (p : ℕ) → p < c .processes → processAfter es p .stage ≡ getname → (fs : List Event)
+        → height (c .leaves) + c .segments ≤ stepsGiven p fs
+        → HoldsWithin (height (c .leaves) + c .segments) (after (stateAfter es)) p fs
 
 -- Demand 3 of the machine: the claim holds after every list, from every accepted setup.
 abbrev pub EveryList : Type 0
-EveryList = (n l g b : ℕ) → setupAnswer n l g b ≡ 0 → (es : List Event) → Claim n l g b (afterList n l g b) es
+EveryList = (c : Setup) → setupAnswer c ≡ 0 → (es : List Event) → Claim c (afterList c) es

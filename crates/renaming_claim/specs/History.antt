@@ -6,7 +6,9 @@ use mathlib.Core.List.{List, [], _∷_}
 use Prim.Native.Nat.{ℕ, suc, _+_, _<_}
 use lib.Dec.{eqb}
 use lib.ListN.{length, getD, take}
+use Rattle.machine.specs.Answer.{accepted}
 use Rattle.machine.specs.Below.{indicator}
+use Rattle.machine.specs.Kind.{request, step}
 use Rattle.machine.specs.Lists.{Event, eventDone}
 use Rattle.machine.specs.Stage.{getname, working}
 use Rattle.machine.specs.State.{processAt}
@@ -14,11 +16,11 @@ use Rattle.machine.specs.declared.State.{State}
 
 -- the event is a step of p, accepted or refused
 abbrev pub stepOf : ℕ → Event → Bool
-stepOf p e = eqb (e .process) p && eqb (e .kind) 1
+stepOf p e = eqb (e .process) p && eqb (e .kind) step
 
 -- it is an accepted request of p; it is a step of p at stage 3
 abbrev pub requestOf : ℕ → State → Event → Bool
-requestOf p s e = eqb (e .process) p && (eqb (e .kind) 0 && eqb (eventDone s e .answer) 0)
+requestOf p s e = eqb (e .process) p && (eqb (e .kind) request && eqb (eventDone s e .answer) accepted)
 
 abbrev pub claimOf : ℕ → State → Event → Bool
 claimOf p s e = stepOf p e && eqb (processAt s p .stage) getname
@@ -35,7 +37,7 @@ stepsGiven p [] = 0
 stepsGiven p (e ∷ es) = indicator (stepOf p e) + stepsGiven p es
 
 -- event number `place` of the list is one of the first k steps given to p, and directly after it p holds a name; said of what gives
--- the state after each prefix of the list: the machine, or calls
+-- the state after each prefix of the list: the machine, or calls. (Past the list stands an event of no kind, which is no step.)
 pub record HoldsWithin (k : ℕ) (stateAfter : List Event → State) (p : ℕ) (es : List Event) : Type 0 where
   pub place : ℕ
   pub inside : place < length es

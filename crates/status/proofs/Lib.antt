@@ -1,2 +1,4 @@
--- What the proofs of the status list rest on.
+-- What the proofs of the status records rest on.
 pub mod Written
+pub mod Walk
+pub mod Lent

@@ -1,17 +1,15 @@
--- The status list while it is filled, by induction on the records written; and what an answer of 0, or another, says of it.
+-- The status records while they are filled, by induction on the records written; and what an answer of 0, or another, says of it.
 --     written-length       a list with i records written is as long as it was
 --     written-more         one more record stored is one more written
 --     accepted             answered 0, the processes are at most 64, and the list has room for them
 --     accepted-list        answered 0, the list at exit has all its records written
 --     refused-list         answered anything else, it is as it was
 -- Assumes nothing.
-use mathlib.Core.Path.{_≡_, refl, sym, ap}
 use mathlib.Core.List.{List, [], _∷_, _++_, map}
 use Prim.Native.Nat.{ℕ, zero, suc, _≤_, _<_}
-use native.Mathlib.Omega.{arith}
 use lib.ListN.{length, getD, set, take, drop}
-use borrow.Author.Tests.{leb-true}
-use Rattle.machine.specs.Reports.{statusOf, statusChecks, statusAnswer, statusList}
+use Rattle.machine.proofs.Rules.{_≡_, sym, ap, refl, arith, leb-true}
+use Rattle.machine.specs.Reports.{statusOf, statusChecks, statusAnswer, statusRecords}
 use Rattle.machine.specs.declared.State.{State}
 use Rattle.machine.specs.declared.Status.{Status}
 use Rattle.machine.proofs.Facts.Checks.{all-passed, accepted-with, refused-with}
@@ -37,16 +35,16 @@ written-more {B = B} f (x ∷ xs) d (suc i) (y ∷ ys) k l =
     ap (λ (zs : List B). f x ∷ zs) (written-more f xs d i ys (omega (arith, k)) (omega (arith, l)))
 
 module _ (s : State) (records : List Status) where
-  pub accepted : statusAnswer s records ≡ 0 → (s .processes ≤ 64) × (s .processes ≤ length records)
+  pub accepted : statusAnswer s records ≡ 0 → (s .setup .processes ≤ 64) × (s .setup .processes ≤ length records)
   unfolding statusAnswer
   accepted e =
       let p = all-passed (statusChecks s records) refl e in
       (ranges-of s (p .0) .limits .n64, leb-true _ _ (p .1 .0))
 
-  pub accepted-list : statusAnswer s records ≡ 0 → written statusOf (s .process) (s .processes) records ≡ statusList s records
-  unfolding statusAnswer statusList
-  accepted-list e = sym (accepted-with (statusChecks s records) (λ a. records) (written statusOf (s .process) (s .processes) records) refl e)
+  pub accepted-list : statusAnswer s records ≡ 0 → written statusOf (s .process) (s .setup .processes) records ≡ statusRecords s records
+  unfolding statusAnswer statusRecords
+  accepted-list e = sym (accepted-with (statusChecks s records) (λ a. records) _ refl e)
 
-  pub refused-list : (statusAnswer s records ≡ 0 → ⊥) → records ≡ statusList s records
-  unfolding statusAnswer statusList
-  refused-list d = sym (refused-with (statusChecks s records) (λ a. records) (written statusOf (s .process) (s .processes) records) d)
+  pub refused-list : (statusAnswer s records ≡ 0 → ⊥) → records ≡ statusRecords s records
+  unfolding statusAnswer statusRecords
+  refused-list d = sym (refused-with (statusChecks s records) (λ a. records) _ d)

@@ -1,3 +1,3 @@
-// The status list (document 01: roll): a lent slice of records, written by one function over covered code.
+// The status records (document 01: roll): a lent slice of them, written by one function over covered code.
 pub mod fill;
 mod record;

@@ -1,35 +1,47 @@
-// What the status list is made of: the answer, and the record of one process.
+// What the status records are made of: the answer, the number and the records of the processes, and the status record of one.
+use machine::Process;
 use machine::State;
 use machine::Status;
+use machine::answer;
 use ranges::range;
 ghost use mathlib.Core.Path.{_≡_};
 ghost use mathlib.Core.List.{List};
-ghost use Prim.Native.Nat.{_<_};
 ghost use lib.ListN.{length};
 ghost use Rattle.machine.specs.Reports.{statusAnswer, statusOf};
-ghost use Rattle.machine.specs.State.{processAt};
 ghost use Rattle.machine.specs.declared.Status.{Status};
 
-// 0, 15 for a broken state, or 13 where a list of that length is shorter than the processes.
+// 0, 15 for a broken state, or 13 where so many records are fewer than the processes.
 pub(crate) fn status_answer(state: State, len: usize) -> u8
     ensures { λ r. ⌜ ((records : List Status) → length records ≡ len → r ≡ statusAnswer state records) ⌝ }
 {
     if !range::in_range(state) {
-        return 15;
+        return answer::BROKEN_STATE;
     }
-    let n = state.processes as usize;
+    let n = state.setup.processes as usize;
     if len < n {
-        return 13;
+        return answer::SHORT;
     }
-    0
+    answer::ACCEPTED
+}
+
+// The number of processes.
+pub(crate) fn count(state: State) -> usize
+    ensures { λ r. ⌜ r ≡ state .setup .processes ⌝ }
+{
+    state.setup.processes as usize
+}
+
+// The processes' records, the places from N on with them.
+pub(crate) fn processes(state: State) -> [Process; 64]
+    ensures { λ r. ⌜ r ≡ state .process ⌝ }
+{
+    state.process
 }
 
 // Stage, name and steps of a process.
-pub(crate) fn status_of(state: State, p: usize) -> Status
-    requires { ⌜ p < 64 ⌝ }
-    ensures { λ r. ⌜ r ≡ statusOf (processAt state p) ⌝ }
+pub(crate) fn status_of(h: Process) -> Status
+    ensures { λ r. ⌜ r ≡ statusOf h ⌝ }
 {
-    let h = state.process[p];
     Status {
         stage: h.stage,
         name: h.name,

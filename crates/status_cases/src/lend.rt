@@ -6,7 +6,7 @@ ghost use mathlib.Core.Path.{_≡_};
 ghost use mathlib.Core.List.{_++_};
 ghost use Prim.Native.Nat.{_≤_};
 ghost use lib.ListN.{take, drop};
-ghost use Rattle.machine.specs.Reports.{statusAnswer, statusList};
+ghost use Rattle.machine.specs.Reports.{statusAnswer, statusRecords};
 
 // What a call answers, and the records after it.
 pub(crate) struct Filled {
@@ -18,7 +18,7 @@ pub(crate) struct Filled {
 pub(crate) fn fill_first(state: State, list: [Status; 80], count: usize) -> Filled
     requires { ⌜ count ≤ 80 ⌝ }
     ensures { λ r. ⌜ (r .answer ≡ statusAnswer state (take count list))
-        × (r .records ≡ statusList state (take count list) ++ drop count list) ⌝ }
+        × (r .records ≡ statusRecords state (take count list) ++ drop count list) ⌝ }
 {
     let mut records = list;
     let answer = fill::fill_status(state, &mut records[..count]);

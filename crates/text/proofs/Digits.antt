@@ -1,9 +1,7 @@
 -- The four forms of a figure, each from the fact that its test tells. Assumes nothing.
-use mathlib.Core.Path.{_≡_}
 use mathlib.Core.List.{[], _∷_}
 use Prim.Native.Nat.{ℕ, _/_, _%_, _≤_, _<_}
-use native.Mathlib.Omega.{arith}
-use borrow.Author.Tests.{lt-ltb, le-ltb, eq-eqb, ne-eqb}
+use Rattle.machine.proofs.Rules.{_≡_, arith, lt-ltb, eq-eqb, le-ltb, ne-eqb}
 use Rattle.text.specs.Lines.{digit, decimal, figure}
 
 module _ (x end : ℕ) where

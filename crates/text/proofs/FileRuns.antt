@@ -1,66 +1,59 @@
 -- The events of an accepted file are run whole: the list passes its three checks, since the body is even, the file is at most 32,768
 -- bytes, and the setup's fresh state is in range. Assumes nothing.
-use mathlib.Core.Path.{_≡_, sym, _∙_, ap}
-use mathlib.Core.Bool.{true}
 use mathlib.Core.List.{List}
 use Prim.Native.Nat.{ℕ, _-_, _*_, _%_, _≤_}
-use native.Mathlib.Omega.{arith}
 use lib.ListN.{length, take, drop, length-drop}
 use lib.Seq.{take-at}
-use borrow.Author.Tests.{eq-eqb, le-leb}
+use Rattle.machine.proofs.Rules.{_≡_, _∙_, sym, ap, true, arith, eq-eqb, le-leb}
 use Rattle.machine.specs.Lists.{eventsOf, journalLength, written, runChecks, runJournal}
 use Rattle.machine.specs.Range.{inRange}
+use Rattle.machine.specs.declared.State.{State}
 use Rattle.machine.proofs.Facts.Checks.{passed-with}
 use Rattle.machine.proofs.Laws.Fresh.{fresh-in-range}
 use Rattle.machine.proofs.Laws.Parts.{events-length, journal-length, lent-length}
-use Rattle.trace.specs.Layout.{byte, fileAnswer, readSetup, readEvents}
-use Rattle.trace.proofs.Accepted.{not-long, even, has-layout, has-setup, reads-fresh}
+use Rattle.day_file.specs.Layout.{bodySetup, fileAnswer, readSetup, readEvents}
+use Rattle.day_file.proofs.Accepted.{not-long, even, has-layout, has-setup, reads-fresh}
 use Rattle.text.specs.File.{fileJournal}
 
 module _ (f lent : List ℕ) (accepted : fileAnswer f ≡ 0) (room : 65536 ≤ length lent) where
-  body-size : length (readEvents f) ≡ length f - 27
+  abbrev pub state : State
+  state = readSetup f .state
+
+  abbrev pub events : List ℕ
+  events = readEvents f
+
+  body-size : length events ≡ length f - 27
   unfolding readEvents
   body-size = rw (eq-eqb (fileAnswer f) 0 accepted) (length-drop 27 f)
 
-  journal-room : 2 * length (readEvents f) ≤ length lent
+  journal-room : 2 * length events ≤ length lent
   journal-room = omega (arith, body-size, not-long f (has-layout f accepted), room)
 
-  state-in-range : inRange (readSetup f .state) ≡ true
-  state-in-range =
-      rw (reads-fresh f accepted) (fresh-in-range (byte f 23) (byte f 24) (byte f 25) (byte f 26) (has-setup f accepted))
+  in-range : inRange (readSetup f .state) ≡ true
+  in-range = rw (reads-fresh f accepted) (fresh-in-range (bodySetup f) (has-setup f accepted))
 
-  runs : runJournal (readSetup f .state) (readEvents f) lent ≡ written (readSetup f .state) (readEvents f) lent
+  runs : runJournal state events lent ≡ written state events lent
   unfolding runJournal
   runs =
-      passed-with (runChecks (readSetup f .state) (readEvents f) lent) (λ a. lent) (written (readSetup f .state) (readEvents f) lent) (
-        eq-eqb (length (readEvents f) % 2) 0 (rw body-size (even f (has-layout f accepted))),
-        (
-          le-leb (journalLength (readEvents f)) (length lent) (omega (arith, journal-room)),
-          (state-in-range, tt),
-        ),
-      )
+      let even-body = eq-eqb (length events % 2) 0 (rw body-size (even f (has-layout f accepted))) in
+      let fits = le-leb (journalLength events) (length lent) (omega (arith, journal-room)) in
+      passed-with (runChecks state events lent) (λ a. lent) (written state events lent) (even-body, (fits, (in-range, tt)))
 
   -- what the run wrote is the file's journal, two bytes for each byte of its events
-  journal-size : length (fileJournal f) ≡ 2 * length (readEvents f)
+  journal-size : length (fileJournal f) ≡ 2 * length events
   journal-size =
-      omega (
-        arith,
-        journal-length (readSetup f .state) (eventsOf (readEvents f)),
-        events-length (readEvents f),
-        body-size,
-        even f (has-layout f accepted),
-      )
+      omega (arith, journal-length state (eventsOf events), events-length events, body-size, even f (has-layout f accepted))
 
-  pub file-journal : take (2 * length (readEvents f)) (runJournal (readSetup f .state) (readEvents f) lent) ≡ fileJournal f
+  pub file-journal : take (2 * length events) (runJournal state events lent) ≡ fileJournal f
   file-journal =
-      ap (take (2 * length (readEvents f))) runs
-      ∙ take-at (fileJournal f) (drop (journalLength (readEvents f)) lent) (2 * length (readEvents f)) journal-size
+      ap (take (2 * length events)) runs
+      ∙ take-at (fileJournal f) (drop (journalLength events) lent) (2 * length events) journal-size
 
   pub file-journal-size :
-      let n = 2 * length (readEvents f) in
-      let written = runJournal (readSetup f .state) (readEvents f) lent in
-      (n ≤ length written) × (n ≡ length (take n written))
+      let n = 2 * length events in
+      let journal = runJournal state events lent in
+      (n ≤ length journal) × (n ≡ length (take n journal))
   file-journal-size = (
-    omega (arith, journal-room, lent-length (readSetup f .state) (readEvents f) lent),
+    omega (arith, journal-room, lent-length state events lent),
     sym (ap (λ (l : List ℕ). length l) file-journal ∙ journal-size),
   )

@@ -2,7 +2,6 @@
 pub mod Digits
 pub mod Entries
 pub mod Runs
-pub mod Writing
 pub mod Filled
 pub mod FileRuns
 pub mod Decimal

@@ -1,36 +1,62 @@
--- Texts put into a buffer one after the other are one text put there: two runs of stores in a row are one.
---     put-more       two texts in a row
---     first-room     room for both is room for the first
---     put-room       and, the first put, for the second
---     sets-start     what a text put at the start leaves
+-- A text put into a buffer part by part: the parts still to come, stored from here on, make the whole text.
+--     begun          nothing is put yet, and there is room
+--     next-room      there is room for the next part
+--     next, last     one part more, and the last one
+--     parted, done   the last part taken as two, and nothing left
+--     from-start     put at the start, a text ends at its length
+--     sets-start     and leaves what it does not reach
 -- Assumes nothing.
-use mathlib.Core.Path.{_≡_, _∙_, ap, subst}
-use mathlib.Core.List.{List, _++_}
+use mathlib.Core.List.{List, [], _∷_, _++_}
 use Prim.Native.Nat.{ℕ, _+_, _≤_}
 use native.Mathlib.Nat.{zero-add}
-use native.Mathlib.Omega.{arith}
 use lib.ListN.{length, drop, length-append}
 use lib.Seq.{sets, sets-eq, length-sets}
+use Rattle.machine.proofs.Rules.{_≡_, _∙_, ap, subst, refl, arith}
 use Rattle.machine.proofs.Facts.Lists.{sets-append}
 
--- the buffer o becomes o′: the text stands at a place, and r is the place after it
-pub record Put (o o′ : List ℕ) (at r : ℕ) (text : List ℕ) : Type 0 where
-  pub place : r ≡ at + length text
-  pub stored : o′ ≡ sets o at text
+abbrev pub joined : List (List ℕ) → List ℕ
+joined [] = []
+joined (x ∷ []) = x
+joined (x ∷ y ∷ ys) = x ++ joined (y ∷ ys)
 
-pub first-room : (o xs ys : List ℕ) (at : ℕ) → at + length (xs ++ ys) ≤ length o → at + length xs ≤ length o
-first-room o xs ys at k = omega (arith, k, length-append xs ys)
+-- the whole text is to stand in o₀ at a place; so far that made the buffer o, and the parts are to stand in it from a on
+pub record Putting (o₀ : List ℕ) (at : ℕ) (whole o : List ℕ) (a : ℕ) (parts : List (List ℕ)) : Type 0 where
+  pub same : length o ≡ length o₀
+  pub room : a + length (joined parts) ≤ length o
+  pub size : a + length (joined parts) ≡ at + length whole
+  pub stored : sets o a (joined parts) ≡ sets o₀ at whole
 
-module _ {o o₁ : List ℕ} {at a : ℕ} {xs : List ℕ} (p : Put o o₁ at a xs) where
-  pub put-more : {o₂ : List ℕ} {b : ℕ} {ys : List ℕ} → Put o₁ o₂ a b ys → Put o o₂ at b (xs ++ ys)
-  put-more {o₂} {b} {ys} q =
-      record {
-        place = omega (arith, p .place, q .place, length-append xs ys);
-        stored = q .stored ∙ ap (λ (l : List ℕ). sets l a ys) (p .stored) ∙ sets-append xs ys o at a (p .place);
-      }
+pub begun : (parts : List (List ℕ)) {o : List ℕ} {at : ℕ} → at + length (joined parts) ≤ length o → Putting o at (joined parts) o at parts
+begun parts k = record { same = refl; room = k; size = refl; stored = refl }
 
-  pub put-room : (ys : List ℕ) → at + length (xs ++ ys) ≤ length o → a + length ys ≤ length o₁
-  put-room ys k = omega (arith, k, p .place, length-append xs ys, ap (λ (l : List ℕ). length l) (p .stored), length-sets o at xs)
+module _ {o₀ whole o x : List ℕ} {at a : ℕ} where
+  pub last : {o₁ : List ℕ} {b : ℕ} → Putting o₀ at whole o a (x ∷ []) → (b ≡ a + length x) × (o₁ ≡ sets o a x)
+      → (b ≡ at + length whole) × (o₁ ≡ sets o₀ at whole)
+  last p q = (q .0 ∙ p .size, q .1 ∙ p .stored)
+
+  pub done : Putting o₀ at whole o a (x ∷ []) → x ≡ [] → (a ≡ at + length whole) × (o ≡ sets o₀ at whole)
+  done p e = last p (rw e (omega arith, refl))
+
+  pub parted : (y z : List ℕ) → x ≡ y ++ z → Putting o₀ at whole o a (x ∷ []) → Putting o₀ at whole o a (y ∷ z ∷ [])
+  parted y z e p = record { same = p .same; room = rw e at (p .room); size = rw e at (p .size); stored = rw e at (p .stored) }
+
+  module _ {y : List ℕ} {ys : List (List ℕ)} (p : Putting o₀ at whole o a (x ∷ y ∷ ys)) where
+    pub next-room : a + length x ≤ length o
+    next-room = omega (arith, p .room, length-append x (joined (y ∷ ys)))
+
+    pub next : {o₁ : List ℕ} {b : ℕ} → (b ≡ a + length x) × (o₁ ≡ sets o a x) → Putting o₀ at whole o₁ b (y ∷ ys)
+    next {o₁} {b} q =
+        let rest = joined (y ∷ ys) in
+        let same = ap (λ (l : List ℕ). length l) (q .1) ∙ length-sets o a x in
+        record {
+          same = same ∙ p .same;
+          room = omega (arith, p .room, q .0, same, length-append x rest);
+          size = omega (arith, p .size, q .0, length-append x rest);
+          stored = ap (λ (l : List ℕ). sets l b rest) (q .1) ∙ sets-append x rest o a b (q .0) ∙ p .stored;
+        }
+
+pub from-start : {A : Type 0} {b n : ℕ} → (b ≡ 0 + n) × A → (b ≡ n) × A
+from-start {n = n} q = (q .0 ∙ zero-add n, q .1)
 
 pub sets-start : (xs l : List ℕ) → length xs ≤ length l → sets l 0 xs ≡ xs ++ drop (length xs) l
 sets-start xs l h =

@@ -3,7 +3,7 @@
 use mathlib.Core.Path.{_≡_}
 use mathlib.Core.List.{List, [], _∷_, _++_}
 use Prim.Native.Nat.{ℕ}
-use Rattle.trace.specs.Controls.{p11-file}
+use Rattle.day_file.specs.Controls.{p11-file}
 use Rattle.text.specs.Lines.{space, newline, decimal, lines}
 use Rattle.text.specs.File.{fileText}
 

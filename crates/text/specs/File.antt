@@ -3,8 +3,9 @@ use mathlib.Core.Bool.{cond}
 use mathlib.Core.List.{List}
 use Prim.Native.Nat.{ℕ}
 use lib.Dec.{eqb}
+use Rattle.machine.specs.Answer as answer
 use Rattle.machine.specs.Lists.{eventsOf, journal}
-use Rattle.trace.specs.Layout.{fileAnswer, readSetup, readEvents}
+use Rattle.day_file.specs.Layout.{fileAnswer, readSetup, readEvents}
 use Rattle.text.specs.Lines.{lines, refused}
 
 -- the journal of an accepted file's events
@@ -12,4 +13,4 @@ abbrev pub fileJournal : List ℕ → List ℕ
 fileJournal f = journal (readSetup f .state) (eventsOf (readEvents f))
 
 unfoldable pub fileText : List ℕ → List ℕ
-fileText f = cond (eqb (fileAnswer f) 0) (lines (fileJournal f)) (refused (fileAnswer f))
+fileText f = cond (eqb (fileAnswer f) answer.accepted) (lines (fileJournal f)) (refused (fileAnswer f))

@@ -24,7 +24,8 @@ pub(crate) fn figure_size(x: u8) -> usize
 // Puts a figure and its end at a place, and answers the place after them.
 pub(crate) fn put_figure(out: &mut [u8], at: usize, x: u8, end: u8) -> usize
     requires { ⌜ at + length (figure x end) ≤ length (now out) ⌝ }
-    ensures { λ r. ⌜ (r ≡ at + length (figure x end)) × (now (out .exit) ≡ sets (now (out .entry)) at (figure x end)) ⌝ }
+    ensures { λ r. ⌜ (r ≡ at + length (figure x end))
+        × (now (out .exit) ≡ sets (now (out .entry)) at (figure x end)) ⌝ }
 {
     if x == 255 {
         out[at] = b'-';

@@ -1,4 +1,4 @@
-// What the program `pads` prints: the text of a journal and of a whole trace file, in a lent buffer.
+// What the program `pads` prints: the text of a journal and of a whole day file, in a lent buffer.
 mod figures;
 pub mod file;
 pub mod lines;

@@ -1,6 +1,7 @@
 // The lines of a journal, one for each four bytes.
 use crate::Text;
 use crate::figures;
+use machine::answer;
 ghost use mathlib.Core.Path.{_≡_};
 ghost use Prim.Native.Nat.{_+_, _≤_};
 ghost use lib.Dec.{leb};
@@ -41,7 +42,8 @@ fn fits(journal: &[u8], room: usize) -> bool
 // Puts the line of the entry at i at a place, and answers the place after it.
 fn put_line(out: &mut [u8], at: usize, journal: &[u8], i: usize) -> usize
     requires { ⌜ (i + 4 ≤ length (now journal)) × (at + length (lineAt (now journal) i) ≤ length (now out)) ⌝ }
-    ensures { λ r. ⌜ (r ≡ at + length (lineAt (now (journal .entry)) i)) × (now (out .exit) ≡ sets (now (out .entry)) at (lineAt (now (journal .entry)) i)) ⌝ }
+    ensures { λ r. ⌜ (r ≡ at + length (lineAt (now (journal .entry)) i))
+        × (now (out .exit) ≡ sets (now (out .entry)) at (lineAt (now (journal .entry)) i)) ⌝ }
 {
     let a = figures::put_figure(&mut *out, at, journal[i], b' ');
     let b = figures::put_figure(&mut *out, a, journal[i + 1], b' ');
@@ -52,7 +54,8 @@ fn put_line(out: &mut [u8], at: usize, journal: &[u8], i: usize) -> usize
 // Puts the lines of a journal at the start of a buffer that has room for them, and answers how many bytes they took.
 fn put_lines(out: &mut [u8], journal: &[u8]) -> usize
     requires { ⌜ length (lines (now journal)) ≤ length (now out) ⌝ }
-    ensures { λ r. ⌜ (r ≡ length (lines (now (journal .entry)))) × (now (out .exit) ≡ sets (now (out .entry)) 0 (lines (now (journal .entry)))) ⌝ }
+    ensures { λ r. ⌜ (r ≡ length (lines (now (journal .entry))))
+        × (now (out .exit) ≡ sets (now (out .entry)) 0 (lines (now (journal .entry)))) ⌝ }
 {
     let mut i: usize = 0;
     let mut at: usize = 0;
@@ -65,17 +68,18 @@ fn put_lines(out: &mut [u8], journal: &[u8]) -> usize
 
 // The text of a journal; 13 when the buffer is shorter than the text.
 pub fn journal_text(journal: &[u8], out: &mut [u8]) -> Text
-    ensures { λ r. ⌜ (r ≡ given (lines (now (journal .entry))) (now (out .entry))) × (now (out .exit) ≡ lentAfter (lines (now (journal .entry))) (now (out .entry))) ⌝ }
+    ensures { λ r. ⌜ (r ≡ given (lines (now (journal .entry))) (now (out .entry)))
+        × (now (out .exit) ≡ lentAfter (lines (now (journal .entry))) (now (out .entry))) ⌝ }
 {
     if !fits(journal, out.len()) {
         return Text {
-            answer: 13,
+            answer: answer::SHORT,
             size: 0,
         };
     }
     let size = put_lines(&mut *out, journal);
     Text {
-        answer: 0,
+        answer: answer::ACCEPTED,
         size: size,
     }
 }

@@ -1,6 +1,7 @@
 // The line of a refused file.
 use crate::Text;
 use crate::figures;
+use machine::answer;
 ghost use mathlib.Core.Path.{_≡_};
 ghost use Prim.Native.Nat.{_≤_};
 ghost use lib.ListN.{length};
@@ -26,19 +27,20 @@ fn put_word(out: &mut [u8])
 
 // `refused n`; 13 when the buffer is shorter than that.
 pub(crate) fn refused_text(n: u8, out: &mut [u8]) -> Text
-    ensures { λ r. ⌜ (r ≡ given (refused n) (now (out .entry))) × (now (out .exit) ≡ lentAfter (refused n) (now (out .entry))) ⌝ }
+    ensures { λ r. ⌜ (r ≡ given (refused n) (now (out .entry)))
+        × (now (out .exit) ≡ lentAfter (refused n) (now (out .entry))) ⌝ }
 {
     let size = 8 + figures::figure_size(n);
     if out.len() < size {
         return Text {
-            answer: 13,
+            answer: answer::SHORT,
             size: 0,
         };
     }
     put_word(&mut *out);
     let end = figures::put_figure(&mut *out, 8, n, b'\n');
     Text {
-        answer: 0,
+        answer: answer::ACCEPTED,
         size: end,
     }
 }

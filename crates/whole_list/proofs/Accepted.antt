@@ -1,25 +1,25 @@
 -- What an accepted setup, an accepted list and a refused one gave: the fresh state, the machine's run, and what they were lent. By the
 -- checks that decide. Assumes nothing.
-use mathlib.Core.Path.{_≡_, refl, sym, ap, _∙_}
-use mathlib.Core.Logic.{_≢_}
 use mathlib.Core.List.{List}
 use Prim.Native.Nat.{ℕ}
+use Rattle.machine.proofs.Rules.{_≡_, _∙_, sym, ap, refl, _≢_}
 use Rattle.machine.specs.Check.{checked}
 use Rattle.machine.specs.Lists.{after, eventsOf, written, runChecks, run, runJournal}
 use Rattle.machine.specs.Setup.{setupAnswer}
 use Rattle.machine.specs.State.{done, fresh}
 use Rattle.machine.specs.declared.Done.{Done}
+use Rattle.machine.specs.declared.Setup.{Setup}
 use Rattle.machine.specs.declared.State.{State}
 use Rattle.machine.proofs.Facts.Checks.{read-of, accepted-with, refused-with}
 use Rattle.machine.proofs.Laws.Setup.{setup-answers, setup-accepted}
 use Rattle.whole_list.specs.Calls.{SetUp}
 
-module _ (n l g b : ℕ) (d₀ : Done) (set : SetUp n l g b d₀) (accepted : d₀ .answer ≡ 0) where
-  pub passed : setupAnswer n l g b ≡ 0
-  passed = sym (setup-answers n l g b) ∙ sym (ap (λ (d : Done). d .answer) set) ∙ accepted
+module _ (c : Setup) (d₀ : Done) (set : SetUp c d₀) (accepted : d₀ .answer ≡ 0) where
+  pub passed : setupAnswer c ≡ 0
+  passed = sym (setup-answers c) ∙ sym (ap (λ (d : Done). d .answer) set) ∙ accepted
 
-  pub is-fresh : d₀ .state ≡ fresh n l g b
-  is-fresh = ap (λ (d : Done). d .state) (set ∙ setup-accepted n l g b passed)
+  pub is-fresh : d₀ .state ≡ fresh c
+  is-fresh = ap (λ (d : Done). d .state) (set ∙ setup-accepted c passed)
 
 module _ (s : State) (bytes lent : List ℕ) where
   answer-of : run s bytes lent .answer ≡ checked (runChecks s bytes lent) (λ a. a) 0

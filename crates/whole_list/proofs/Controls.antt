@@ -1,20 +1,21 @@
 -- The theorem is not empty: every list has a chain of calls from every state, every list of bytes a list call, and a drawn chain mixes
 -- the four single calls with a list and a refused list, has a refused event among them, and holds a name. By induction and by
 -- computation. Assumes nothing.
-use mathlib.Core.Path.{_≡_, refl}
 use mathlib.Core.List.{List, [], _∷_}
 use Prim.Native.Nat.{ℕ}
-use native.Mathlib.Omega.{arith}
 use contract.Lifetimes.{Lfts}
 use denote.Ref.{RefT}
 use lib.ListN.{replicate}
+use Rattle.machine.proofs.Rules.{refl, _≡_, arith}
 use Rattle.machine.specs.Event.{event}
 use Rattle.machine.specs.Lists.{Event, eventDone, eventsOf, after, run, runJournal}
+use Rattle.machine.specs.Setup.{plain}
 use Rattle.machine.specs.State.{setup, processAt}
 use Rattle.machine.specs.declared.Done.{Done}
 use Rattle.machine.specs.declared.State.{State}
 use Rattle.machine.proofs.Runs.{machine}
-use Rattle.whole_list.specs.Calls.{SetUp, eventOf, by-event, by-request, by-step, by-release, ListCall, resultsOf, Calls, none, call, list, refused-list}
+use Rattle.whole_list.specs.Calls.{SetUp, eventOf, by-event, by-request, by-step, by-release}
+use Rattle.whole_list.specs.Calls.{ListCall, resultsOf, Calls, none, call, list, refused-list}
 
 pub chain-of : (s : State) (es : List Event) → Calls s es (resultsOf s es) (after s es)
 unfolding resultsOf after
@@ -40,7 +41,7 @@ list-call-of κs s bytes journal =
 -- one process of two, one name: a request, a refused release, a list that is too long for its journal, a list of two steps that wins the
 -- name, a release and a step
 abbrev start : Done
-start = setup 2 1 1 1
+start = setup (plain 2 1 1 1)
 
 abbrev first : Done
 first = event (start .state) 0 0
@@ -71,7 +72,7 @@ pub holds-drawn : processAt (third .state) 0 .stage ≡ 4
 unfolding machine
 holds-drawn = refl
 
-pub set-up : SetUp 2 1 1 1 start
+pub set-up : SetUp (plain 2 1 1 1) start
 set-up = refl
 
 pub mixed : Lfts 2 → Calls (start .state)

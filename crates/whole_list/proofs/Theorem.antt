@@ -11,6 +11,7 @@ use Rattle.machine.specs.Setup.{height}
 use Rattle.machine.specs.Stage.{getname, working}
 use Rattle.machine.specs.State.{processAt, fresh}
 use Rattle.machine.specs.declared.Done.{Done}
+use Rattle.machine.specs.declared.Setup.{Setup}
 use Rattle.machine.specs.declared.State.{State}
 use Rattle.renaming_claim.specs.Claim.{Claim, afterList}
 use Rattle.renaming_claim.specs.History.{HoldsWithin}
@@ -39,14 +40,18 @@ held-own {p = p} {s = s} {es = es} {ds = ds} calls w =
       isStep = w .isStep;
       early = w .early;
       holds = subst (λ (x : State). processAt x p .stage ≡ working)
-          (sym (subst (λ (fs : List Event). ownState s ds fs ≡ after s fs) (take-length at) (own-is calls (suc (w .place)) (length at))))
+          (sym
+          (subst (λ (fs : List Event). ownState s ds fs ≡ after s fs) (take-length at) (own-is calls (suc (w .place)) (length at))))
           (w .holds);
     }
 
 pub whole-list : EveryChain
-whole-list n l g b d₀ set accepted es ds t calls =
+whole-list c d₀ set accepted es ds t calls =
     record {
-      answered = ap (map (λ (d : Done). d .answer)) (results-are calls) ∙ results-answers s es ∙ ap (λ (x : State). answers x es) start;
+      answered =
+          ap (map (λ (d : Done). d .answer)) (results-are calls)
+          ∙ results-answers s es
+          ∙ ap (λ (x : State). answers x es) start;
       states = λ i.
           ap (λ (rs : List Done). stateAt s rs i) (results-are calls)
           ∙ results-states s es i
@@ -56,38 +61,40 @@ whole-list n l g b d₀ set accepted es ds t calls =
       joins = λ fs gs u more. join calls more;
       wins = λ p k st fs gs u more given.
           held-own more
-          (subst (λ (x : State). HoldsWithin (height l + g) (after x) p fs) (sym ended)
+          (subst (λ (x : State). HoldsWithin (height (c .leaves) + c .segments) (after x) p fs) (sym ended)
           (claimed es .wins p k (subst (λ (x : State). processAt x p .stage ≡ getname) ended st) fs given));
     }
   where
     s : State
     s = d₀ .state
 
-    start : s ≡ fresh n l g b
-    start = is-fresh n l g b d₀ set accepted
+    start : s ≡ fresh c
+    start = is-fresh c d₀ set accepted
 
-    ended : t ≡ afterList n l g b es
+    ended : t ≡ afterList c es
     ended = end-is calls ∙ ap (λ (x : State). after x es) start
 
-    claimed : (fs : List Event) → Claim n l g b (afterList n l g b) fs
-    claimed = claim.theorem n l g b (passed n l g b d₀ set accepted)
+    claimed : (fs : List Event) → Claim c (afterList c) fs
+    claimed = claim.theorem c (passed c d₀ set accepted)
 
-    owned : (i : ℕ) → ((j : ℕ) → afterList n l g b (take j (take i es)) ≡ ownState s ds (take j (take i es)))
-        → Claim n l g b (ownState s ds) (take i es)
+    owned : (i : ℕ) → ((j : ℕ) → afterList c (take j (take i es)) ≡ ownState s ds (take j (take i es)))
+        → Claim c (ownState s ds) (take i es)
     owned i same =
-        agrees n l g b (afterList n l g b) (ownState s ds) (take i es)
-        (subst (λ (fs : List Event). afterList n l g b fs ≡ ownState s ds fs) (take-length (take i es)) (same (length (take i es))))
+        agrees c (afterList c) (ownState s ds) (take i es)
+        (subst (λ (fs : List Event). afterList c fs ≡ ownState s ds fs) (take-length (take i es)) (same (length (take i es))))
         same
         (claimed (take i es))
 
 -- one list call on the setup's own state, as a chain
-pub one-list : (n l g b : ℕ) (d₀ : Done) → SetUp n l g b d₀ → d₀ .answer ≡ 0 → (d : Done) (c : ListCall (d₀ .state) d) → d .answer ≡ 0
-    → Whole n l g b (d₀ .state) (listed c) (resultsOf (d₀ .state) (listed c)) (d .state)
-one-list n l g b d₀ set accepted d c ran =
-    whole-list n l g b d₀ set accepted (listed c) (resultsOf (d₀ .state) (listed c)) (d .state)
-    (subst (λ (es : List Event). Calls (d₀ .state) es (resultsOf (d₀ .state) (listed c)) (d .state)) (append-nil (listed c))
-    (subst (λ (ds : List Done). Calls (d₀ .state) (listed c ++ []) ds (d .state)) (append-nil (resultsOf (d₀ .state) (listed c)))
-    (list (d₀ .state) (d .state) d [] [] c ran (none (d .state)))))
+pub one-list : (c : Setup) (d₀ : Done) → SetUp c d₀ → d₀ .answer ≡ 0 → (d : Done) (one : ListCall (d₀ .state) d) → d .answer ≡ 0
+    → Whole c (d₀ .state) (listed one) (resultsOf (d₀ .state) (listed one)) (d .state)
+one-list c d₀ set accepted d one ran =
+    let s : State = d₀ .state in
+    let results : List Done = resultsOf s (listed one) in
+    whole-list c d₀ set accepted (listed one) results (d .state)
+    (subst (λ (es : List Event). Calls s es results (d .state)) (append-nil (listed one))
+    (subst (λ (ds : List Done). Calls s (listed one ++ []) ds (d .state)) (append-nil results)
+    (list s (d .state) d [] [] one ran (none (d .state)))))
 
 pub list-call : EveryListCall
 list-call s d c =
@@ -99,7 +106,8 @@ list-call s d c =
           ∙ ap (λ (j : List ℕ). j ++ drop (journalLength (now (c .bytes))) (now (c .journal)))
           (sym (ap (entriesOf (listed c)) (results-are calls) ∙ results-entries s (listed c)));
       kept = list-kept c;
-      untouched = λ refused. c .ran .1 ∙ run-untouched s (now (c .bytes)) (now (c .journal)) (λ e. refused (same-answer ∙ e));
+      untouched = λ refused.
+          c .ran .1 ∙ run-untouched s (now (c .bytes)) (now (c .journal)) (λ e. refused (same-answer ∙ e));
     }
   where
     same-answer : d .answer ≡ run s (now (c .bytes)) (now (c .journal)) .answer

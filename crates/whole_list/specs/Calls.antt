@@ -7,9 +7,11 @@ use mathlib.Core.List.{List, [], _∷_, _++_}
 use Prim.Native.Nat.{ℕ, zero, suc}
 use contract.Lifetimes.{Lfts}
 use denote.Ref.{RefT, now}
+use Rattle.machine.specs.Kind.{request, step, release}
 use Rattle.machine.specs.Lists.{Event, eventDone, eventsOf, entryBytes}
 use Rattle.machine.specs.State.{processAt}
 use Rattle.machine.specs.declared.Done.{Done}
+use Rattle.machine.specs.declared.Setup.{Setup}
 use Rattle.machine.specs.declared.State.{State}
 use Rattle.renaming.proofs.setup.setup.Reads as setup-reads
 use Rattle.renaming.proofs.event.event.Reads as event-reads
@@ -18,9 +20,9 @@ use Rattle.renaming.proofs.event.step.Reads as step-reads
 use Rattle.renaming.proofs.event.release.Reads as release-reads
 use Rattle.renaming.proofs.list.run.Reads as run-reads
 
--- `setup(n, l, g, b)` gave d
-abbrev pub SetUp : ℕ → ℕ → ℕ → ℕ → Done → Type 0
-SetUp n l g b d = setup-reads.Learnt tt (n, (l, (g, (b, tt)))) d (n, (l, (g, (b, tt))))
+-- `setup(c)` gave d
+abbrev pub SetUp : Setup → Done → Type 0
+SetUp c d = setup-reads.Learnt tt (c, tt) d (c, tt)
 
 abbrev pub eventOf : ℕ → ℕ → Event
 eventOf kind p = record { kind = kind; process = p }
@@ -28,9 +30,9 @@ eventOf kind p = record { kind = kind; process = p }
 -- a call lent s and given the event gave d: `event(s, kind, p)`, or `request(s, p)`, `step(s, p)` or `release(s, p)`
 pub data Called (s : State) : Event → Done → Type 0 where
   by-event : (kind p : ℕ) (d : Done) → event-reads.Learnt tt (s, (kind, (p, tt))) d (s, (kind, (p, tt))) → Called s (eventOf kind p) d
-  by-request : (p : ℕ) (d : Done) → request-reads.Learnt tt (s, (p, tt)) d (s, (p, tt)) → Called s (eventOf 0 p) d
-  by-step : (p : ℕ) (d : Done) → step-reads.Learnt tt (s, (p, tt)) d (s, (p, tt)) → Called s (eventOf 1 p) d
-  by-release : (p : ℕ) (d : Done) → release-reads.Learnt tt (s, (p, tt)) d (s, (p, tt)) → Called s (eventOf 2 p) d
+  by-request : (p : ℕ) (d : Done) → request-reads.Learnt tt (s, (p, tt)) d (s, (p, tt)) → Called s (eventOf request p) d
+  by-step : (p : ℕ) (d : Done) → step-reads.Learnt tt (s, (p, tt)) d (s, (p, tt)) → Called s (eventOf step p) d
+  by-release : (p : ℕ) (d : Done) → release-reads.Learnt tt (s, (p, tt)) d (s, (p, tt)) → Called s (eventOf release p) d
 
 -- `run(s, bytes, journal)` gave d and left bytes′ and journal′
 abbrev pub Ran : Lfts 2 → State → RefT (List ℕ) → RefT (List ℕ) → Done → RefT (List ℕ) → RefT (List ℕ) → Type 0

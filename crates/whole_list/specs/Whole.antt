@@ -10,6 +10,7 @@ use Rattle.machine.specs.Setup.{height}
 use Rattle.machine.specs.Stage.{getname}
 use Rattle.machine.specs.State.{processAt, fresh}
 use Rattle.machine.specs.declared.Done.{Done}
+use Rattle.machine.specs.declared.Setup.{Setup}
 use Rattle.machine.specs.declared.State.{State}
 use Rattle.renaming_claim.specs.Claim.{Claim, afterList}
 use Rattle.renaming_claim.specs.History.{stepsGiven, HoldsWithin}
@@ -19,20 +20,20 @@ use Rattle.whole_list.specs.Calls.{SetUp, ListCall, listed, Calls, state
 abbrev pub ownState : State → List Done → List Event → State
 ownState s ds es = stateAt s ds (length es)
 
--- A setup of four numbers gave a state s, calls of the events followed, single ones and lists, and gave the results and the state t.
-pub record Whole (n l g b : ℕ) (s : State) (es : List Event) (ds : List Done) (t : State) : Type 0 where
-  -- Each event's answer, the state after each and the last state are the machine's, fed the four numbers and the events alone.
-  pub answered : map (λ (d : Done). d .answer) ds ≡ answers (fresh n l g b) es
-  pub states : (i : ℕ) → stateAt s ds i ≡ afterList n l g b (take i es)
-  pub last : t ≡ afterList n l g b es
+-- A setup gave a state s, calls of the events followed, single ones and lists, and gave the results and the state t.
+pub record Whole (c : Setup) (s : State) (es : List Event) (ds : List Done) (t : State) : Type 0 where
+  -- Each event's answer, the state after each and the last state are the machine's, fed the setup and the events alone.
+  pub answered : map (λ (d : Done). d .answer) ds ≡ answers (fresh c) es
+  pub states : (i : ℕ) → stateAt s ds i ≡ afterList c (take i es)
+  pub last : t ≡ afterList c es
   -- The claim holds of the chain's own states, after every event.
-  pub claims : (i : ℕ) → Claim n l g b (ownState s ds) (take i es)
+  pub claims : (i : ℕ) → Claim c (ownState s ds) (take i es)
   -- Calls that follow make one chain with these.
   pub joins : (fs : List Event) (gs : List Done) (u : State) → Calls t fs gs u → Calls s (es ++ fs) (ds ++ gs) u
   -- Whatever calls follow, once a process that is in getname in the state t has been given h + g more steps, it held a name directly
   -- after one of them, in the state of their chain there.
-  pub wins : (p : ℕ) → p < n → processAt t p .stage ≡ getname → (fs : List Event) (gs : List Done) (u : State) → Calls t fs gs u
-      → height l + g ≤ stepsGiven p fs → HoldsWithin (height l + g) (ownState t gs) p fs
+  pub wins : (p : ℕ) → p < c .processes → processAt t p .stage ≡ getname → (fs : List Event) (gs : List Done) (u : State) → Calls t fs gs u
+      → height (c .leaves) + c .segments ≤ stepsGiven p fs → HoldsWithin (height (c .leaves) + c .segments) (ownState t gs) p fs
 
 -- One call of a list of bytes, which was lent s.
 pub record Listed (s : State) (d : Done) (c : ListCall s d) : Type 0 where
@@ -47,8 +48,8 @@ pub record Listed (s : State) (d : Done) (c : ListCall s d) : Type 0 where
 -- Demand 3 of the calls: every chain of calls from the state that an accepted setup gave is whole.
 abbrev pub EveryChain : Type 0
 EveryChain =
-    (n l g b : ℕ) (d₀ : Done) → SetUp n l g b d₀ → d₀ .answer ≡ 0
-    → (es : List Event) (ds : List Done) (t : State) → Calls (d₀ .state) es ds t → Whole n l g b (d₀ .state) es ds t
+    (c : Setup) (d₀ : Done) → SetUp c d₀ → d₀ .answer ≡ 0
+    → (es : List Event) (ds : List Done) (t : State) → Calls (d₀ .state) es ds t → Whole c (d₀ .state) es ds t
 
 -- and every call of a list does what the calls of its events do.
 abbrev pub EveryListCall : Type 0

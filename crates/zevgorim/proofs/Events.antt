@@ -1,14 +1,13 @@
 -- The bytes that C's part of a file names are the events that `read_events` hands back: from byte 27 on the file has just as many
 -- as the part says, and of a refused file both are none. By the file's answer. Assumes nothing.
-use mathlib.Core.Path.{_≡_, refl}
-use mathlib.Core.Bool.{Bool, true, false}
 use mathlib.Core.List.{List}
 use Prim.Native.Nat.{ℕ}
 use native.Mathlib.Nat.{le-refl}
 use lib.Dec.{eqb}
 use lib.ListN.{drop, length-drop}
 use lib.Seq.{take-all}
-use Rattle.trace.specs.Layout.{bodySize, fileAnswer, readEvents}
+use Rattle.machine.proofs.Rules.{_≡_, refl, true, false, Bool}
+use Rattle.day_file.specs.Layout.{bodySize, fileAnswer, readEvents}
 use Rattle.zevgorim.specs.Part.{bytesOf, eventsPart}
 
 pub part-events : (f : List ℕ) → bytesOf (eventsPart f) f ≡ readEvents f

@@ -1,14 +1,11 @@
 -- A call given 255 for a number above 255 gives what it would give that number: as a number of a setup, as a kind and as a process both
 -- are refused, at the same check. By the test that fails. Assumes nothing.
-use mathlib.Core.Path.{_≡_, refl, _∙_}
-use mathlib.Core.Bool.{Bool, true, false}
 use Prim.Native.Nat.{ℕ, _≤_, _<_}
-use native.Mathlib.Omega.{arith}
 use lib.Dec.{ltb}
-use borrow.Author.Tests.{ltb-true, le-leb, lt-leb, le-ltb, ne-eqb}
+use Rattle.machine.proofs.Rules.{_≡_, _∙_, refl, true, false, Bool, arith, le-leb, le-ltb, ltb-true, ne-eqb, lt-leb}
 use Rattle.machine.specs.Event.{event}
 use Rattle.machine.specs.Range.{inRange}
-use Rattle.machine.specs.Setup.{within, isLeaves}
+use Rattle.machine.specs.Setup.{plain, within, isLeaves}
 use Rattle.machine.specs.State.{setup}
 use Rattle.machine.specs.declared.Done.{Done}
 use Rattle.machine.specs.declared.State.{State}
@@ -33,29 +30,13 @@ large-no-leaves x k =
     rw (ne-eqb x 1 (omega arith), ne-eqb x 2 (omega arith), ne-eqb x 4 (omega arith), ne-eqb x 8 (omega arith), ne-eqb x 16 (omega arith))
 
 -- each number of a setup is refused by its own check, whatever the others are
-module _ (n l g b x : ℕ) (k : 255 < x) where
-  large-processes : setup 255 l g b ≡ setup x l g b
-  unfolding setup
-  large-processes = rw (large-outside 64 x (omega arith) k)
-
-  large-leaves : setup n 255 g b ≡ setup n x g b
-  unfolding setup isLeaves
-  large-leaves = rw (large-no-leaves x k)
-
-  large-segments : setup n l 255 b ≡ setup n l x b
-  unfolding setup
-  large-segments = rw (large-outside 8 x (omega arith) k)
-
-  large-bits : setup n l g 255 ≡ setup n l g x
-  unfolding setup
-  large-bits = rw (large-outside 8 x (omega arith) k)
-
-pub setup-narrowed : (n l g b : ℕ) → setup (narrow n) (narrow l) (narrow g) (narrow b) ≡ setup n l g b
+pub setup-narrowed : (n l g b : ℕ) → setup (plain (narrow n) (narrow l) (narrow g) (narrow b)) ≡ setup (plain n l g b)
+unfolding setup isLeaves
 setup-narrowed n l g b =
-    narrowed-same (λ x. setup x (narrow l) (narrow g) (narrow b)) (large-processes 0 (narrow l) (narrow g) (narrow b)) n
-    ∙ narrowed-same (λ x. setup n x (narrow g) (narrow b)) (large-leaves n 0 (narrow g) (narrow b)) l
-    ∙ narrowed-same (λ x. setup n l x (narrow b)) (large-segments n l 0 (narrow b)) g
-    ∙ narrowed-same (λ x. setup n l g x) (large-bits n l g 0) b
+    narrowed-same (λ x. setup (plain x (narrow l) (narrow g) (narrow b))) (λ x k. rw (large-outside 64 x (omega arith) k)) n
+    ∙ narrowed-same (λ x. setup (plain n x (narrow g) (narrow b))) (λ x k. rw (large-no-leaves x k)) l
+    ∙ narrowed-same (λ x. setup (plain n l x (narrow b))) (λ x k. rw (large-outside 8 x (omega arith) k)) g
+    ∙ narrowed-same (λ x. setup (plain n l g x)) (λ x k. rw (large-outside 8 x (omega arith) k)) b
 
 large-kind : (s : State) (p x : ℕ) → 255 < x → event s 255 p ≡ event s x p
 unfolding event
@@ -69,7 +50,7 @@ large-process s kind x k = go (inRange s) refl
     go : (t : Bool) → inRange s ≡ t → event s kind 255 ≡ event s kind x
     go true e =
         let n = ranges-of s e .limits .n64 in
-        rw (e, le-ltb 255 (s .processes) (omega (arith, n)), le-ltb x (s .processes) (omega (arith, n)))
+        rw (e, le-ltb 255 (s .setup .processes) (omega (arith, n)), le-ltb x (s .setup .processes) (omega (arith, n)))
     go false e = rw e
 
 pub event-narrowed : (s : State) (kind p : ℕ) → event s (narrow kind) (narrow p) ≡ event s kind p

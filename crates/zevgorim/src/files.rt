@@ -1,12 +1,13 @@
 // The day file and what the program prints for it, for C.
 use crate::Part;
+use day_file::reader;
 use machine::Done;
+use machine::answer;
 use text::Text;
 use text::file;
 use text::lines;
-use trace::reader;
 ghost use mathlib.Core.Path.{_≡_};
-ghost use Rattle.trace.specs.Layout.{fileAnswer, readSetup, readEvents};
+ghost use Rattle.day_file.specs.Layout.{fileAnswer, readSetup, readEvents};
 ghost use Rattle.text.specs.File.{fileText};
 ghost use Rattle.text.specs.Lent.{given, lentAfter};
 ghost use Rattle.text.specs.Lines;
@@ -31,7 +32,7 @@ pub extern "C" fn zevgorim_read_setup(file: &[u8]) -> Done
 pub extern "C" fn zevgorim_read_events(file: &[u8]) -> Part
     ensures { λ r. ⌜ (r ≡ eventsPart (now (file .entry))) × (bytesOf r (now (file .entry)) ≡ readEvents (now (file .entry))) ⌝ }
 {
-    if reader::file_answer(file) != 0 {
+    if reader::file_answer(file) != answer::ACCEPTED {
         return Part { offset: 0, size: 0 };
     }
     Part {

@@ -1,7 +1,7 @@
 // The calls for C, behind a prefix. A slice is a pointer and its length.
 pub mod files;
 mod narrow;
-pub mod roll;
+pub mod records;
 pub mod states;
 
 // A part of a lent file: where it begins, and how many bytes it has.

@@ -2,27 +2,31 @@
 use crate::narrow;
 use machine::Done;
 use machine::Report;
+use machine::Setup;
 use machine::State;
+use machine::kind;
 use renaming::event;
 use renaming::list;
 use renaming::report;
 use renaming::setup;
 ghost use mathlib.Core.Path.{_≡_};
 ghost use Rattle.machine.specs.Event;
+ghost use Rattle.machine.specs.Kind;
 ghost use Rattle.machine.specs.Lists;
 ghost use Rattle.machine.specs.Reports;
+ghost use Rattle.machine.specs.Setup.{plain};
 ghost use Rattle.machine.specs.State.{setup as State·setup};
 
 #[no_mangle]
 pub extern "C" fn zevgorim_setup(n: u32, l: u32, g: u32, b: u32) -> Done
-    ensures { λ r. ⌜ r ≡ State·setup n l g b ⌝ }
+    ensures { λ r. ⌜ r ≡ State·setup (plain n l g b) ⌝ }
 {
-    setup::setup(
-        narrow::narrowed(n),
-        narrow::narrowed(l),
-        narrow::narrowed(g),
-        narrow::narrowed(b),
-    )
+    setup::setup(Setup {
+        processes: narrow::narrowed(n),
+        leaves: narrow::narrowed(l),
+        segments: narrow::narrowed(g),
+        bits: narrow::narrowed(b),
+    })
 }
 
 #[no_mangle]
@@ -34,23 +38,23 @@ pub extern "C" fn zevgorim_event(state: State, kind: u32, process: u32) -> Done
 
 #[no_mangle]
 pub extern "C" fn zevgorim_request(state: State, process: u32) -> Done
-    ensures { λ r. ⌜ r ≡ Event.event state 0 process ⌝ }
+    ensures { λ r. ⌜ r ≡ Event.event state Kind.request process ⌝ }
 {
-    zevgorim_event(state, 0, process)
+    zevgorim_event(state, kind::REQUEST as u32, process)
 }
 
 #[no_mangle]
 pub extern "C" fn zevgorim_step(state: State, process: u32) -> Done
-    ensures { λ r. ⌜ r ≡ Event.event state 1 process ⌝ }
+    ensures { λ r. ⌜ r ≡ Event.event state Kind.step process ⌝ }
 {
-    zevgorim_event(state, 1, process)
+    zevgorim_event(state, kind::STEP as u32, process)
 }
 
 #[no_mangle]
 pub extern "C" fn zevgorim_release(state: State, process: u32) -> Done
-    ensures { λ r. ⌜ r ≡ Event.event state 2 process ⌝ }
+    ensures { λ r. ⌜ r ≡ Event.event state Kind.release process ⌝ }
 {
-    zevgorim_event(state, 2, process)
+    zevgorim_event(state, kind::RELEASE as u32, process)
 }
 
 #[no_mangle]

@@ -3,21 +3,11 @@ use borrow.Author.Needs.{needs}
 use Rattle.call_cases.proofs.main.Statement.{statement}
 use Rattle.call_cases.proofs.main.Tie as tie
 
-abbrev Inv-loop : tie.InvT-loop
-Inv-loop turns₀ turns = Unit {0}
-
-abbrev μ-loop : tie.MeasureT-loop
-μ-loop turns₀ turns = turns
-
 pub main-spec : {M : Type 1} → statement M
 main-spec =
     tie.close
-    (tie.spec Inv-loop μ-loop
-    -- before the loop
-    (λ c. search needs)
-    -- `!calls::next()`
-    (λ c κs. search needs) (λ c. search needs)
-    -- a turn
-    (λ c. search needs) (λ c. search needs) (λ c. search needs)
-    -- otherwise
-    (λ c. search needs))
+    (tie.spec (λ turns₀ turns. Unit {0}) (λ turns₀ turns. turns)
+    -- the next record, or the input's end
+    (λ c. search needs) (λ c κs. search needs) (λ c. search needs)
+    -- the turns left, and none left
+    (λ c. search needs) (λ c. search needs) (λ c. search needs) (λ c. search needs))

@@ -5,17 +5,17 @@ use borrow.Author.Needs.{needs}
 use Rattle.day_cases.proofs.next.Statement.{statement}
 use Rattle.day_cases.proofs.next.Tie as tie
 
-part-file-text-end : tie.Need-part-file-text-end
-part-file-text-end c = simp length-append (omega (arith, c .before .before .before .before .read-full .ensures, c .before .before .before .before .before .before .if1 .left))
-
 pub next-spec : {M : Type 1} → statement M
 next-spec =
     tie.close
     (tie.spec
-    -- `size > 65536`
+    -- no more files
     (λ c κs. search needs) (λ c. search needs)
-    -- `io::read_full(0, &mut input[0..size]) < size`
+    -- the input ends within the file
     (λ c. search needs) (λ c. search needs) (λ c. search needs) (λ c κs. search needs) (λ c. search needs)
-    -- otherwise
-    (λ c κs. search needs) (λ c. search needs) (λ c. search needs) part-file-text-end (λ c. search needs)
-    (λ c κs. search needs) (λ c. search needs) (λ c. search needs) (λ c κs. search needs) (λ c. search needs))
+    -- its number
+    (λ c κs. search needs)
+    -- its text
+    (λ c. search needs) (λ c. search needs) (λ c. simp length-append (omega arith)) (λ c. search needs) (λ c κs. search needs)
+    -- the text printed
+    (λ c. search needs) (λ c. search needs) (λ c κs. search needs) (λ c. search needs))

@@ -6,14 +6,11 @@
 --     length-tabulate, getD-tabulate    a tabulated list
 -- At a numeral bound the test computes, so that `refl` proves it and `all-at` turns it into a law.
 -- Assumes nothing.
-use mathlib.Core.Path.{_≡_, refl, sym, _∙_, ap}
-use mathlib.Core.Bool.{Bool, true, false, _&&_, and-false}
-use mathlib.Core.Logic.{⊎-elim}
 use Prim.Native.Nat.{ℕ, zero, suc, _+_, _<_}
 use native.Mathlib.Nat.{not-suc-le-zero, eq-or-lt-of-le, le-of-suc-le-suc}
 use native.Mathlib.Numerals.{add-one}
-use native.Mathlib.Omega.{arith}
 use lib.ListN.{length, getD, replicate}
+use Rattle.machine.proofs.Rules.{_≡_, _∙_, sym, ap, refl, true, false, Bool, _&&_, and-false, ⊎-elim, arith}
 use Rattle.machine.specs.Below.{allBelow, tabulate}
 use Rattle.machine.proofs.Facts.Tests.{and-left, and-right}
 

@@ -4,13 +4,10 @@
 --     all-passed       answered 0, every check passed, where no check has the number 0
 --     accepted-with    answered 0, the outcome is what is accepted
 -- Assumes nothing.
-use mathlib.Core.Path.{_≡_, refl}
-use mathlib.Core.Bool.{Bool, true, false, cond, _&&_}
 use mathlib.Core.List.{List, [], _∷_}
 use Prim.Native.Nat.{ℕ}
-use native.Mathlib.Omega.{arith}
 use lib.Dec.{ltb}
-use borrow.Author.Tests.{ltb-true}
+use Rattle.machine.proofs.Rules.{_≡_, refl, true, false, cond, Bool, _&&_, arith, ltb-true}
 use Rattle.machine.specs.Check.{Check, checked}
 use Rattle.machine.proofs.Facts.Tests.{and-left, and-right}
 
@@ -20,7 +17,8 @@ read-of f [] refuse accept = refl
 read-of f (c ∷ cs) refuse accept = go (c .passes) (read-of f cs refuse accept)
   where
     go : (t : Bool) → f (checked cs refuse accept) ≡ checked cs (λ a. f (refuse a)) (f accept)
-        → f (cond t (checked cs refuse accept) (refuse (c .number))) ≡ cond t (checked cs (λ a. f (refuse a)) (f accept)) (f (refuse (c .number)))
+        → f (cond t (checked cs refuse accept) (refuse (c .number)))
+        ≡ cond t (checked cs (λ a. f (refuse a)) (f accept)) (f (refuse (c .number)))
     go true e = e
     go false e = refl
 

@@ -3,13 +3,10 @@
 --     height-is     2^h = L
 --     depth-root, depth-left, depth-right    node 1 has depth 0, and a child lies one level below its parent
 -- Assumes nothing.
-use mathlib.Core.Path.{_≡_, refl}
-use mathlib.Core.Bool.{Bool, true, cond, _&&_, false≢true}
 use Prim.Native.Nat.{ℕ, _+_, _*_, _^_, _≤_, _<_}
 use native.Mathlib.Decide.{decLt}
-use native.Mathlib.Omega.{arith}
 use lib.Dec.{eqb, ltb, leb}
-use borrow.Author.Tests.{ne-eqb, eqb-true, leb-true, lt-ltb}
+use Rattle.machine.proofs.Rules.{_≡_, refl, true, cond, Bool, _&&_, false≢true, arith, lt-ltb, eqb-true, ne-eqb, leb-true}
 use Rattle.machine.specs.Below.{allBelow}
 use Rattle.machine.specs.Setup.{isLeaves, log2, height}
 use Rattle.machine.proofs.Facts.Tests.{and-left, and-right}
@@ -68,12 +65,13 @@ pub depth-root : log2 1 ≡ 0
 unfolding log2
 depth-root = refl
 
-pub depth-left : (v : ℕ) → 0 < v → v < 16 → log2 (2 * v) ≡ log2 v + 1
-unfolding below
-depth-left v k l =
-    eqb-true _ _ (and-left (eqb (log2 (2 * v)) (log2 v + 1)) (eqb (log2 (2 * v + 1)) (log2 v + 1)) (rw (lt-ltb 0 v k) at (all-at 16 below levels v l)))
+module _ (v : ℕ) (k : 0 < v) (l : v < 16) where
+  deeper : (eqb (log2 (2 * v)) (log2 v + 1) && eqb (log2 (2 * v + 1)) (log2 v + 1)) ≡ true
+  unfolding below
+  deeper = rw (lt-ltb 0 v k) at (all-at 16 below levels v l)
 
-pub depth-right : (v : ℕ) → 0 < v → v < 16 → log2 (2 * v + 1) ≡ log2 v + 1
-unfolding below
-depth-right v k l =
-    eqb-true _ _ (and-right (eqb (log2 (2 * v)) (log2 v + 1)) (eqb (log2 (2 * v + 1)) (log2 v + 1)) (rw (lt-ltb 0 v k) at (all-at 16 below levels v l)))
+  pub depth-left : log2 (2 * v) ≡ log2 v + 1
+  depth-left = eqb-true _ _ (and-left (eqb (log2 (2 * v)) (log2 v + 1)) _ deeper)
+
+  pub depth-right : log2 (2 * v + 1) ≡ log2 v + 1
+  depth-right = eqb-true _ _ (and-right (eqb (log2 (2 * v)) (log2 v + 1)) _ deeper)

@@ -1,12 +1,11 @@
 -- What stands at a place of a list after a store, and after every element moved up by one: by whether it is that place.
 -- Assumes nothing.
-use mathlib.Core.Path.{_≡_, refl, sym, _∙_, ap}
 use mathlib.Core.List.{List, [], _∷_, _++_, map}
 use Prim.Native.Nat.{ℕ, zero, suc, _+_, _<_}
 use native.Mathlib.Decide.{ℕ-discrete, decLt}
-use native.Mathlib.Omega.{arith}
 use lib.ListN.{length, getD, set, drop, length-set, length-map}
 use lib.Seq.{sets, getD-set-same, getD-set-other, set-out}
+use Rattle.machine.proofs.Rules.{_≡_, _∙_, sym, ap, refl, arith}
 use Rattle.machine.specs.Touches.{Agrees}
 
 -- what holds of the value stored, and of what stood there, holds of what stands there after the store
@@ -29,7 +28,8 @@ getD-moved (x ∷ y ∷ l) zero d = refl
 getD-moved (x ∷ y ∷ l) (suc i) d = getD-moved (y ∷ l) i d
 
 -- two lists that agree at the places in use agree there after the same store
-pub store-agrees : {A : Type 0} {d : A} {used : ℕ → Type 0} {l l′ : List A} (i : ℕ) (a : A) → Agrees d used l l′ → Agrees d used (set l i a) (set l′ i a)
+pub store-agrees : {A : Type 0} {d : A} {used : ℕ → Type 0} {l l′ : List A} (i : ℕ) (a : A) → Agrees d used l l′
+    → Agrees d used (set l i a) (set l′ i a)
 store-agrees {d = d} {used} {l} {l′} i a k =
     record { at = λ j u. go j u (ℕ-discrete j i) (decLt i (length l)); size = length-set l′ i a ∙ k .size ∙ sym (length-set l i a) }
   where
@@ -46,3 +46,10 @@ sets-append (x ∷ xs) ys l i j e = sets-append xs ys (set l i x) (suc i) j (ome
 -- the length of an array of records, as code knows it
 pub length-mapped : (X Y : Type 0) (f : X → Y) (l : List X) (n : ℕ) → length (map f l) ≡ n → length l ≡ n
 length-mapped X Y f l n e = sym (length-map l f) ∙ e
+
+-- the index two and three places on
+pub add-two : (n : ℕ) → n + 2 ≡ suc (suc n)
+add-two n = omega arith
+
+pub add-three : (n : ℕ) → n + 3 ≡ suc (suc (suc n))
+add-three n = omega arith

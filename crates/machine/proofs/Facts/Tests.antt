@@ -3,11 +3,10 @@
 --     all-of       the test at a place of a list of tests that all pass
 --     same-test    two tests that pass together are one
 -- Assumes nothing.
-use mathlib.Core.Path.{_≡_, refl, sym}
-use mathlib.Core.Bool.{Bool, true, false, cond, _&&_, and-eq-true-iff}
 use mathlib.Core.List.{List, [], _∷_}
 use Prim.Native.Nat.{ℕ, zero, suc}
 use lib.ListN.{getD}
+use Rattle.machine.proofs.Rules.{_≡_, sym, refl, and-eq-true-iff, true, false, cond, Bool, _&&_}
 use Rattle.machine.specs.Check.{allOf}
 
 pub by-cond : {A : Type 0} (P : A → Type 0) (t : Bool) {x y : A} → (t ≡ true → P x) → (t ≡ false → P y) → P (cond t x y)

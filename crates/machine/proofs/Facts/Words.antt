@@ -4,13 +4,10 @@
 --     set-bit-same, -other, clr-bit-same, -other    one bit changes and no other
 --     set-first-zero-lt, clr-bit-le, decremented-le    the word stays in its range
 -- Assumes nothing.
-use mathlib.Core.Path.{_≡_, refl, sym, ap, _∙_}
-use mathlib.Core.Logic.{_≢_}
 use Prim.Native.Nat.{ℕ, zero, suc, _+_, _-_, _/_, _%_, _^_, _≤_, _<_}
 use native.Mathlib.Nat.{not-suc-le-zero, div-one, div-div-eq-div-mul, pow-succ'}
-use native.Mathlib.Omega.{arith}
 use lib.Dec.{eqb, ltb}
-use borrow.Author.Tests.{eqb-true, eqb-false, ltb-true}
+use Rattle.machine.proofs.Rules.{_≡_, _∙_, sym, ap, refl, _≢_, arith, eqb-true, ltb-true, eqb-false}
 use Rattle.machine.specs.Operations.{bit, firstZero, setFirstZero, clrBit, boundedDecrement}
 use Rattle.machine.proofs.Facts.Tests.{by-cond}
 
@@ -67,7 +64,7 @@ set-bit-other w (suc i) (suc j) e d =
     ∙ sym (bit-suc w j)
 
 -- a set bit weighs no more than the word
-bit-le : (w i : ℕ) → bit w i ≡ 1 → 2 ^ i ≤ w
+pub bit-le : (w i : ℕ) → bit w i ≡ 1 → 2 ^ i ≤ w
 bit-le w zero e = omega (arith, bit-zero w)
 bit-le w (suc i) e = omega (arith, pow-succ' 2 i, bit-le (w / 2) i (sym (bit-suc w i) ∙ e))
 
@@ -114,7 +111,9 @@ first-zero-lt zero w k = λ l. absurd (not-suc-le-zero l)
 first-zero-lt (suc b) w k =
     by-cond (λ (m : ℕ). m < suc b → w + 2 ^ m < 2 ^ suc b) (eqb (w % 2) 0)
     (λ e _. omega (arith, pow-succ' 2 b, eqb-true (w % 2) 0 e))
-    (λ _ l. omega (arith, pow-succ' 2 b, pow-succ' 2 (firstZero b (w / 2)), first-zero-lt b (w / 2) (omega (arith, pow-succ' 2 b)) (omega arith)))
+    (λ _ l.
+    let half = first-zero-lt b (w / 2) (omega (arith, pow-succ' 2 b)) (omega arith) in
+    omega (arith, pow-succ' 2 b, pow-succ' 2 (firstZero b (w / 2)), half))
 
 pub set-first-zero-lt : (b w : ℕ) → w < 2 ^ b → setFirstZero b w .word < 2 ^ b
 unfolding setFirstZero

@@ -1,10 +1,7 @@
 -- An accepted event leaves a state in range, and a refused one the state it was lent: by the cases of an event. A broken state,
 -- a bad kind and a stranger are refused in that order: by the checks. Assumes nothing.
-use mathlib.Core.Path.{_≡_, refl}
-use mathlib.Core.Bool.{true, false}
 use Prim.Native.Nat.{ℕ, _≤_, _<_}
-use native.Mathlib.Omega.{arith}
-use borrow.Author.Tests.{le-leb, lt-leb, le-ltb}
+use Rattle.machine.proofs.Rules.{_≡_, refl, true, false, arith, le-leb, le-ltb, lt-leb}
 use Rattle.machine.specs.Event.{event}
 use Rattle.machine.specs.Range.{inRange}
 use Rattle.machine.specs.State.{done}
@@ -35,6 +32,6 @@ module _ (s : State) (kind p : ℕ) where
   unfolding event
   kind-refused e k = rw (e, lt-leb kind 2 k)
 
-  pub stranger-refused : inRange s ≡ true → kind ≤ 2 → s .processes ≤ p → event s kind p ≡ done 6 s
+  pub stranger-refused : inRange s ≡ true → kind ≤ 2 → s .setup .processes ≤ p → event s kind p ≡ done 6 s
   unfolding event
-  stranger-refused e k l = rw (e, le-leb kind 2 k, le-ltb p (s .processes) l)
+  stranger-refused e k l = rw (e, le-leb kind 2 k, le-ltb p (s .setup .processes) l)

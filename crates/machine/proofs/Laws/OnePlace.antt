@@ -3,21 +3,18 @@
 --     event-touches    every event does
 --     others-unchanged, setup-unchanged, unused-process, -counter, -word, sized-kept    what it therefore leaves alone
 -- Assumes nothing.
-use mathlib.Core.Path.{_≡_, refl, _∙_}
-use mathlib.Core.Logic.{_≢_}
 use mathlib.Core.List.{List}
 use Prim.Native.Nat.{ℕ, _*_, _/_, _%_, _≤_, _<_}
-use native.Mathlib.Omega.{arith}
 use lib.Dec.{eqb, ltb}
 use lib.ListN.{length, length-set}
 use lib.Seq.{getD-set-other}
-use borrow.Author.Tests.{ltb-true, ltb-false, eqb-false}
+use Rattle.machine.proofs.Rules.{_≡_, _∙_, refl, _≢_, arith, ltb-false, ltb-true, eqb-false}
 use Rattle.machine.specs.Event.{event}
 use Rattle.machine.specs.Gate.{above0, inQueue, headGone, enter, await, leave}
 use Rattle.machine.specs.Getname.{descend, probe, getnameStep}
 use Rattle.machine.specs.Putname.{giveBack, climb, putnameStep}
 use Rattle.machine.specs.Range.{ProcessRanges}
-use Rattle.machine.specs.State.{none, noProcess, withNode, setupOf, processAt, counterAt, wordAt, update, Sized}
+use Rattle.machine.specs.State.{none, noProcess, withNode, processAt, counterAt, wordAt, update, Sized}
 use Rattle.machine.specs.Touches.{Touches, nothing, own, gate, counter, word}
 use Rattle.machine.specs.declared.Done.{Done}
 use Rattle.machine.specs.declared.State.{State}
@@ -27,11 +24,11 @@ use Rattle.machine.proofs.Ranges.{Ranges}
 use Rattle.machine.proofs.Sized.{moved-up-length}
 use Rattle.machine.proofs.Moves.{Move, requests, enters, awaits, claims, returns, stays, releases, Outcome, refuses, accepts, event-outcome}
 
-module _ (s : State) (p : ℕ) (k : Ranges s) (kp : p < s .processes) where
+module _ (s : State) (p : ℕ) (k : Ranges s) (kp : p < s .setup .processes) where
   abbrev At : State → Type 0
   At t = Touches s p t
 
-  h : ProcessRanges (s .leaves) (s .segments) (s .bits) (processAt s p)
+  h : ProcessRanges (s .setup) (processAt s p)
   h = k .process p kp
 
   enter-touches : At (enter s p)
@@ -48,7 +45,7 @@ module _ (s : State) (p : ℕ) (k : Ranges s) (kp : p < s .processes) where
   claim-touches : At (getnameStep s p)
   unfolding getnameStep descend probe
   claim-touches =
-      by-cond At (ltb (processAt s p .node) (s .leaves))
+      by-cond At (ltb (processAt s p .node) (s .setup .leaves))
       (λ e. counter _ _ _ (h .node1) (ltb-true _ _ e))
       (λ e. word _ _ _ (leaf-segment h (ltb-false _ _ e)))
 
@@ -102,21 +99,21 @@ module _ (s : State) (p : ℕ) where
   others-in q d (counter h v c z l) = getD-set-other (s .process) p q h noProcess d
   others-in q d (word h r w l) = getD-set-other (s .process) p q h noProcess d
 
-  counter-in : (v : ℕ) → (0 < v → v < s .leaves → ⊥) → {t : State} → Touches s p t → counterAt t v ≡ counterAt s v
+  counter-in : (v : ℕ) → (0 < v → v < s .setup .leaves → ⊥) → {t : State} → Touches s p t → counterAt t v ≡ counterAt s v
   counter-in v o nothing = refl
   counter-in v o (own h) = refl
   counter-in v o (gate h a n x e) = refl
   counter-in v o (counter h u c z l) = getD-set-other (s .counters) u v c 0 (λ e. o (omega arith) (omega arith))
   counter-in v o (word h r w l) = refl
 
-  word-in : (r : ℕ) → s .leaves * s .segments ≤ r → {t : State} → Touches s p t → wordAt t r ≡ wordAt s r
+  word-in : (r : ℕ) → s .setup .leaves * s .setup .segments ≤ r → {t : State} → Touches s p t → wordAt t r ≡ wordAt s r
   word-in r o nothing = refl
   word-in r o (own h) = refl
   word-in r o (gate h a n x e) = refl
   word-in r o (counter h v c z l) = refl
   word-in r o (word h q w l) = getD-set-other (s .words) q r w 0 (λ e. omega arith)
 
-  setup-in : {t : State} → Touches s p t → setupOf t ≡ setupOf s
+  setup-in : {t : State} → Touches s p t → t .setup ≡ s .setup
   setup-in nothing = refl
   setup-in (own h) = refl
   setup-in (gate h a n x e) = refl
@@ -125,7 +122,8 @@ module _ (s : State) (p : ℕ) where
 
   sized-in : Sized s → {t : State} → Touches s p t → Sized t
   sized-in k nothing = k
-  sized-in k (own h) = record { queue = k .queue; counters = k .counters; words = k .words; process = length-set (s .process) p h ∙ k .process }
+  sized-in k (own h) =
+      record { queue = k .queue; counters = k .counters; words = k .words; process = length-set (s .process) p h ∙ k .process }
   sized-in k (gate h a n x e) =
       record { queue = e (k .queue); counters = k .counters; words = k .words; process = length-set (s .process) p h ∙ k .process }
   sized-in k (counter h v c z l) =
@@ -150,21 +148,21 @@ module _ (s : State) (kind p : ℕ) where
   pub others-unchanged : (q : ℕ) → q ≢ p → processAt t q ≡ processAt s q
   others-unchanged q d = others-in s p q d (event-touches s kind p)
 
-  pub setup-unchanged : setupOf t ≡ setupOf s
+  pub setup-unchanged : t .setup ≡ s .setup
   setup-unchanged = setup-in s p (event-touches s kind p)
 
   -- places that N, L and g leave unused
-  stranger : (q : ℕ) → s .processes ≤ q → {d : Done} → Outcome s kind p d → processAt (d .state) q ≡ processAt s q
+  stranger : (q : ℕ) → s .setup .processes ≤ q → {d : Done} → Outcome s kind p d → processAt (d .state) q ≡ processAt s q
   stranger q o (refuses a e) = refl
   stranger q o (accepts k kp m e) = others-in s p q (λ i. omega arith) (move-touches s p k kp m)
 
-  pub unused-process : (q : ℕ) → s .processes ≤ q → processAt t q ≡ processAt s q
+  pub unused-process : (q : ℕ) → s .setup .processes ≤ q → processAt t q ≡ processAt s q
   unused-process q o = stranger q o (event-outcome s kind p)
 
-  pub unused-counter : (v : ℕ) → (0 < v → v < s .leaves → ⊥) → counterAt t v ≡ counterAt s v
+  pub unused-counter : (v : ℕ) → (0 < v → v < s .setup .leaves → ⊥) → counterAt t v ≡ counterAt s v
   unused-counter v o = counter-in s p v o (event-touches s kind p)
 
-  pub unused-word : (r : ℕ) → s .leaves * s .segments ≤ r → wordAt t r ≡ wordAt s r
+  pub unused-word : (r : ℕ) → s .setup .leaves * s .setup .segments ≤ r → wordAt t r ≡ wordAt s r
   unused-word r o = word-in s p r o (event-touches s kind p)
 
   pub sized-kept : Sized s → Sized t

@@ -1,13 +1,10 @@
 -- Running a list is running its parts in turn, and the journal has four bytes for each event: by induction on the list.
 -- Assumes nothing.
-use mathlib.Core.Path.{_≡_, refl, sym, ap, _∙_}
-use mathlib.Core.Bool.{_||_}
 use mathlib.Core.List.{List, [], _∷_, _++_, append-assoc}
 use Prim.Native.Nat.{ℕ, _*_, _/_, _%_}
-use native.Mathlib.Omega.{arith}
 use lib.Dec.{eqb, leb}
 use lib.ListN.{length, drop, length-append, length-drop}
-use borrow.Author.Tests.{leb-true}
+use Rattle.machine.proofs.Rules.{_≡_, _∙_, sym, ap, refl, _||_, arith, leb-true}
 use Rattle.machine.specs.Lists.{Event, eventsOf, eventDone, after, answers, entryOf, journal, journalLength, runJournal}
 use Rattle.machine.specs.Range.{inRange}
 use Rattle.machine.specs.declared.State.{State}

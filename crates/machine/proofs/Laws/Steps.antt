@@ -1,12 +1,10 @@
 -- An accepted request leaves its process with no getname step counted, and the queue is served from its head: the record that a
 -- request stores, and the places of the queue moved up. Assumes nothing.
-use mathlib.Core.Path.{_≡_, ap}
 use mathlib.Core.List.{List}
 use Prim.Native.Nat.{ℕ, suc, _<_}
-use native.Mathlib.Omega.{arith}
 use lib.Dec.{eqb}
 use lib.ListN.{getD}
-use borrow.Author.Tests.{eqb-true}
+use Rattle.machine.proofs.Rules.{ap, _≡_, arith, eqb-true}
 use Rattle.machine.specs.Event.{event}
 use Rattle.machine.specs.Gate.{movedUp, headGone}
 use Rattle.machine.specs.Stage.{entry}

@@ -1,23 +1,16 @@
 -- Sums over the numbers below a bound: by induction on the bound. Every count of the proof is such a sum of indicators.
 --     sum-eq, sum-le, sum-add, sum-zero, sum-const, sum-split, sum-first, sum-swap    the ordinary laws
 --     sum-change      one term changes
---     sum-one, sum-two    one term, or two, are at most the sum
---     sum-single, sum-found    exactly one number is a given one
+--     sum-found       exactly one number is a given one
+--     sum-with-one, sum-two    two sums and one more lie below a third; two terms that count make two
 --     hits            how often a number stands in a range: once or never
 -- Assumes nothing.
-use mathlib.Core.Path.{_≡_, refl, sym, ap, _∙_}
-use mathlib.Core.Logic.{_≢_}
-use mathlib.Core.Bool.{Bool, true, false, cond}
 use Prim.Native.Nat.{ℕ, zero, suc, _+_, _*_, _≤_, _<_}
 use native.Mathlib.Decide.{ℕ-discrete}
 use native.Mathlib.Nat.{not-suc-le-zero, add-zero, add-suc}
-use native.Mathlib.Omega.{arith}
 use lib.Dec.{eqb}
-use borrow.Author.Tests.{eq-eqb, ne-eqb, eqb-true, eqb-false, ltb-true, ltb-false, leb-true, leb-false}
+use Rattle.machine.proofs.Rules.{_≡_, sym, refl, true, false, Bool, _≢_, arith, eq-eqb, ne-eqb}
 use Rattle.machine.specs.Below.{sumBelow, indicator as ind}
-
--- what the value of a test says of its numbers, for omega
-pub ruleset tests = (ltb-true, ltb-false, leb-true, leb-false, eqb-true, eqb-false)
 
 pub ind-le : (t : Bool) → ind t ≤ 1
 ind-le true = omega arith
@@ -63,7 +56,8 @@ unfolding sumBelow
 sum-swap zero m f = sym (sum-zero m (λ j. 0) (λ j l. refl))
 sum-swap (suc n) m f = omega (arith, sum-swap n m f, sum-add m (λ j. sumBelow n (λ i. f i j)) (λ j. f n j))
 
-pub sum-change : (n i : ℕ) (f g : ℕ → ℕ) → i < n → ((j : ℕ) → j < n → j ≢ i → g j ≡ f j) → sumBelow n g + f i ≡ sumBelow n f + g i
+pub sum-change : (n i : ℕ) (f g : ℕ → ℕ) → i < n → ((j : ℕ) → j < n → j ≢ i → g j ≡ f j)
+    → sumBelow n g + f i ≡ sumBelow n f + g i
 unfolding sumBelow
 sum-change zero i f g l h = absurd (not-suc-le-zero l)
 sum-change (suc n) i f g l h = go (ℕ-discrete i n) (λ m. sum-change n i f g m (λ j k. h j (omega arith)))
@@ -72,75 +66,46 @@ sum-change (suc n) i f g l h = go (ℕ-discrete i n) (λ m. sum-change n i f g m
     go (yes e) r = rw e (omega (arith, sum-eq n g f (λ j m. h j (omega arith) (omega arith))))
     go (no d) r = omega (arith, r (omega arith), h n (omega arith) (λ q. d (sym q)))
 
--- all terms but one
-unfoldable but : ℕ → (ℕ → ℕ) → ℕ → ℕ
-but i f j = cond (eqb j i) 0 (f j)
-
-but-same : (i : ℕ) (f : ℕ → ℕ) → but i f i ≡ 0
-unfolding but
-but-same i f = rw (eq-eqb i i refl)
-
-but-other : (i : ℕ) (f : ℕ → ℕ) (j : ℕ) → j ≢ i → but i f j ≡ f j
-unfolding but
-but-other i f j d = rw (ne-eqb j i d)
-
-sum-but : (n i : ℕ) (f : ℕ → ℕ) → i < n → sumBelow n f ≡ sumBelow n (but i f) + f i
-sum-but n i f l = omega (arith, sum-change n i f (but i f) l (λ j m d. but-other i f j d), but-same i f)
-
-pub sum-one : (n i : ℕ) (f : ℕ → ℕ) → i < n → f i ≤ sumBelow n f
-sum-one n i f l = omega (arith, sum-but n i f l)
-
-pub sum-two : (n i j : ℕ) (f : ℕ → ℕ) → i < n → j < n → i ≢ j → f i + f j ≤ sumBelow n f
-sum-two n i j f l m d = omega (arith, sum-but n i f l, sum-one n j (but i f) m, but-other i f j (λ e. d (sym e)))
-
-pub sum-single : (n i : ℕ) → i < n → sumBelow n (λ j. ind (eqb j i)) ≡ 1
-sum-single n i l =
-    let f : ℕ → ℕ = λ j. ind (eqb j i) in
-    let e : f i ≡ 1 = rw (eq-eqb i i refl) in
-    let z : sumBelow n (but i f) ≡ 0 = sum-zero n (but i f) (λ j m. none j) in
-    omega (arith, sum-but n i f l)
-  where
-    none : (j : ℕ) → but i (λ k. ind (eqb k i)) j ≡ 0
-    none j = unfold but in go (eqb j i)
-      where
-        go : (t : Bool) → cond t 0 (ind t) ≡ 0
-        go true = refl
-        go false = refl
-
--- the same, with the test's sides exchanged
-eqb-swap : (a c : ℕ) → eqb a c ≡ eqb c a
-eqb-swap a c = go (ℕ-discrete a c)
-  where
-    go : Dec (a ≡ c) → eqb a c ≡ eqb c a
-    go (yes e) = eq-eqb a c e ∙ sym (eq-eqb c a (sym e))
-    go (no d) = ne-eqb a c d ∙ sym (ne-eqb c a (λ e. d (sym e)))
-
 pub sum-found : (n i : ℕ) → i < n → sumBelow n (λ j. ind (eqb i j)) ≡ 1
-sum-found n i l = sum-eq n _ _ (λ j k. ap ind (eqb-swap i j)) ∙ sum-single n i l
+sum-found n i l =
+    let own : ind (eqb i i) ≡ 1 = rw (eq-eqb i i refl) in
+    let other = sum-change n i (λ j. 0) (λ j. ind (eqb i j)) l (λ j _ d. rw (ne-eqb i j (λ e. d (sym e)))) in
+    omega (arith, sum-zero n (λ j. 0) (λ j _. refl))
+
+-- wherever f and g fit into k, and at p with room for one more
+pub sum-with-one : (n p : ℕ) (f g k : ℕ → ℕ) → p < n → f p + g p < k p → ((q : ℕ) → q < n → q ≢ p → f q + g q ≤ k q)
+    → sumBelow n f + sumBelow n g < sumBelow n k
+sum-with-one n p f g k l own other =
+    let one : ℕ → ℕ = λ q. ind (eqb p q) in
+    let less = sum-le n (λ q. f q + g q + one q) k (λ q m. go q m (ℕ-discrete q p)) in
+    omega (arith, sum-found n p l, sum-add n f g, sum-add n (λ q. f q + g q) one)
+  where
+    go : (q : ℕ) → q < n → Dec (q ≡ p) → f q + g q + ind (eqb p q) ≤ k q
+    go q m (yes e) = rw (e, eq-eqb p p refl) (omega arith)
+    go q m (no d) = rw (ne-eqb p q (λ e. d (sym e))) (omega (arith, other q m d))
+
+pub sum-two : (n i j : ℕ) (f : ℕ → ℕ) → i < n → j < n → i ≢ j → 0 < f i → 0 < f j → 1 < sumBelow n f
+sum-two n i j f l m d a c =
+    let apart : ind (eqb j i) ≡ 0 = rw (ne-eqb j i (λ e. d (sym e))) in
+    let more = sum-with-one n i (λ q. ind (eqb j q)) (λ q. 0) f l (omega arith) (λ q _ _. go q (ℕ-discrete j q)) in
+    omega (arith, sum-found n j m)
+  where
+    go : (q : ℕ) → Dec (j ≡ q) → ind (eqb j q) + 0 ≤ f q
+    go q (yes e) = rw (← e, eq-eqb j j refl) (omega arith)
+    go q (no t) = rw (ne-eqb j q t) (omega arith)
 
 unfoldable pub hits : ℕ → ℕ → ℕ → ℕ
 hits from n x = sumBelow n (λ m. ind (eqb x (from + m)))
 
 pub hits-out : (from n x : ℕ) → (from ≤ x → x < from + n → ⊥) → hits from n x ≡ 0
 unfolding hits
-hits-out from n x h = sum-zero n _ (λ m l. go m l (eqb x (from + m)) refl)
-  where
-    go : (m : ℕ) → m < n → (t : Bool) → eqb x (from + m) ≡ t → ind t ≡ 0
-    go m l true e = absurd (h (omega (arith, tests)) (omega (arith, tests)))
-    go m l false e = refl
+hits-out from n x h = sum-zero n _ (λ m l. rw (ne-eqb x (from + m) (λ e. h (omega arith) (omega arith))))
 
 pub hits-le : (from n x : ℕ) → hits from n x ≤ 1
 unfolding hits sumBelow
 hits-le from zero x = omega arith
-hits-le from (suc n) x = go (eqb x (from + n)) refl (hits-le from n x)
+hits-le from (suc n) x = go (ℕ-discrete x (from + n)) (hits-le from n x)
   where
-    go : (t : Bool) → eqb x (from + n) ≡ t → sumBelow n (λ m. ind (eqb x (from + m))) ≤ 1
-        → sumBelow n (λ m. ind (eqb x (from + m))) + ind t ≤ 1
-    go true e r = omega (arith, hits-out from n x (λ a c. omega (arith, tests)))
-    go false e r = omega arith
-
--- of the values f i, how many stand in a range, counted by value
-pub sum-hits : (n : ℕ) (f : ℕ → ℕ) (from m : ℕ)
-    → sumBelow n (λ i. hits from m (f i)) ≡ sumBelow m (λ j. sumBelow n (λ i. ind (eqb (f i) (from + j))))
-unfolding hits
-sum-hits n f from m = sum-swap n m (λ i j. ind (eqb (f i) (from + j)))
+    go : Dec (x ≡ from + n) → hits from n x ≤ 1 → hits from n x + ind (eqb x (from + n)) ≤ 1
+    go (yes e) r = omega (arith, hits-out from n x (λ a c. omega arith), ind-le (eqb x (from + n)))
+    go (no d) r = rw (ne-eqb x (from + n) d) (omega arith)

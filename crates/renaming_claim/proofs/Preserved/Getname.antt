@@ -1,200 +1,168 @@
 -- The invariant is kept by each getname step: left, right, a name won, the next segment. No step finds none left: a full segment
 -- is not the last one. Assumes nothing.
-use mathlib.Core.Path.{_≡_, refl, sym, ap, subst, _∙_}
-use mathlib.Core.Logic.{_≢_}
 use Prim.Native.Nat.{ℕ, suc, _+_, _*_, _-_, _^_, _≤_, _<_}
-use native.Mathlib.Omega.{arith}
 use lib.Arith.{digits-lt}
 use lib.Dec.{eqb, ltb}
 use lib.ListN.{set}
 use lib.Seq.{set-getD}
-use borrow.Author.Tests.{ltb-true, ltb-false, eqb-true, lt-ltb, le-ltb}
-use Rattle.machine.specs.Below.{indicator as ind}
+use Rattle.machine.proofs.Rules.{_≡_, _∙_, ap, refl, arith, lt-ltb, le-ltb, eqb-true, ltb-false, ltb-true}
 use Rattle.machine.specs.Getname.{claimed, side, outcome, segmentOf, descend, probe, getnameStep}
-use Rattle.machine.specs.Operations.{bit, firstZero, setFirstZero, boundedDecrement}
-use Rattle.machine.specs.Setup.{Setup, log2, height}
-use Rattle.machine.specs.State.{none, withNode, withSteps, processAt, counterAt, wordAt, withCounter, withWord, update, setupOf}
+use Rattle.machine.specs.Operations.{firstZero, setFirstZero, boundedDecrement}
+use Rattle.machine.specs.Setup.{log2, height}
+use Rattle.machine.specs.Stage.{getname}
+use Rattle.machine.specs.State.{counterAt, wordAt, withCounter, withWord, update}
 use Rattle.machine.specs.declared.ClaimStep.{ClaimStep}
-use Rattle.machine.specs.declared.ClaimStep.the-variants.{Left, Right, Won, NextSegment}
-use Rattle.machine.specs.declared.Process.{Process}
-use Rattle.machine.specs.declared.State.{State}
-use Rattle.machine.proofs.Facts.Leaves.{leaves-high, depth-left, depth-right}
+use Rattle.machine.specs.declared.ClaimStep.the-variants.{Left, Won, NextSegment}
+use Rattle.machine.proofs.Facts.Leaves.{depth-left, depth-right}
 use Rattle.machine.proofs.Facts.Tests.{by-cond}
 use Rattle.machine.proofs.Facts.Words.{first-zero-clear, first-zero-below}
 use Rattle.machine.proofs.Places.{leaf-segment}
-use Rattle.renaming_claim.proofs.Bits.{bits-keep, bits-win}
-use Rattle.renaming_claim.proofs.Bounds.Descend.{bounds-left, bounds-right}
-use Rattle.renaming_claim.proofs.Bounds.Segments.{Stands, low-name, not-last, bounds-next}
-use Rattle.renaming_claim.proofs.Facts.Tree.{leaf, depth-le}
-use Rattle.renaming_claim.proofs.Invariant.{Held, Claiming, ByStage, Shape, Invariant}
-use Rattle.renaming_claim.proofs.Mover.{Mover, in-range, by-stage, processes-fit, counters-fit, words-fit, shapes-set, stays-put, gate-same, both-beyond}
-use Rattle.renaming_claim.proofs.Names.{isOpen}
-use Rattle.renaming_claim.proofs.Tally.{at}
+use Rattle.renaming_claim.proofs.Bits.{Filled, bits-same, bits-win}
+use Rattle.renaming_claim.proofs.Bounds.{stays-put}
+use Rattle.renaming_claim.proofs.Bounds.Levels.{bounds-left, bounds-right}
+use Rattle.renaming_claim.proofs.Bounds.Segments.{low-name, not-last, bounds-next}
+use Rattle.renaming_claim.proofs.Facts.Tree.{leaf-level, depth-le}
+use Rattle.renaming_claim.proofs.Gate.{gate-past}
+use Rattle.renaming_claim.proofs.Invariant.{isOpen, words, Claiming, Bounds, Invariant}
+use Rattle.renaming_claim.proofs.Mover.{Setup, Process, State, processAt, Mover, by-stage, own-range, limits, leaves-16, stored, shapes-set, shapes-nameless}
 
 decrement-is : (n : ℕ) → boundedDecrement n .word ≡ n - 1
 unfolding boundedDecrement
 decrement-is n = by-cond (λ (x : ℕ). x ≡ n - 1) (eqb n 0) (λ e. omega (arith, eqb-true n 0 e)) (λ _. refl)
 
-module _ {M : ℕ} {s : State} {p : ℕ} (m : Mover M s p) (stage3 : processAt s p .stage ≡ 3) where
+module _ {M : ℕ} {s : State} {p : ℕ} (m : Mover M s p) (st : processAt s p .stage ≡ getname) where
   abbrev c : Setup
-  c = setupOf s
+  c = s .setup
 
   abbrev h : Process
   h = processAt s p
 
-  claiming : Claiming c M h
-  claiming = by-stage m 3 stage3
+  claiming : Claiming c h
+  claiming = by-stage m getname st
 
-  -- one level down
-  module _ (below : h .node < s .leaves) where
+  module _ (below : h .node < c .leaves) where
     abbrev v : ℕ
     v = h .node
 
-    v16 : v < 16
-    v16 = omega (arith, leaves-high (s .leaves) (m .reach .ranges .limits .leaves))
+    abbrev counter : ℕ
+    counter = boundedDecrement (counterAt s v) .word
 
-    child : (u : ℕ) → log2 u ≡ log2 v + 1 → u < 2 * s .leaves → Shape c M (withSteps (h .steps + 1) (withNode u h))
-    child u level inside =
-        let x : Process = withSteps (h .steps + 1) (withNode u h) in
-        let k : Claiming c M x = record { nameless = claiming .nameless; flat = λ _. claiming .flat below; steps = omega (arith, claiming .steps) } in
+    -- one level down, at node u; going right gives the same state as going left, but for u
+    abbrev lower : ℕ → State
+    lower u = update p (claimed (Left u)) (withCounter v counter s)
+
+    lower-keeps : (u : ℕ) → log2 u ≡ log2 v + 1 → u < 2 * c .leaves
+        → Bounds c M (stored m (claimed (Left u) h)) (set (s .counters) v counter) → Invariant M (lower u)
+    lower-keeps u level inside bounds =
+        let x : Process = claimed (Left u) h in
+        let deep = depth-le (c .leaves) (limits m .leaves) inside in
         record {
-          held = λ d. absurd (d (claiming .nameless));
-          most = omega (arith, claiming .steps, depth-le (s .leaves) u (m .reach .ranges .limits .leaves) inside, in-range m .segment);
-          by = subst (λ (n : ℕ). ByStage c M n x) (sym stage3) k;
+          shapes = shapes-nameless m x getname st (claiming .nameless) (omega (arith, claiming .steps, deep, own-range m .segment))
+              (record { nameless = claiming .nameless; flat = λ _. claiming .flat below; steps = omega (arith, claiming .steps) });
+          gate = gate-past m x (omega arith) (omega arith);
+          bits = bits-same m x refl;
+          bounds = bounds;
         }
 
-    left-keeps : 0 < counterAt s v → Invariant M (update p (claimed (Left (2 * v))) (withCounter v (boundedDecrement (counterAt s v) .word) s))
-    left-keeps paid =
-        let x : Process = withSteps (h .steps + 1) (withNode (2 * v) h) in
-        record {
-          shapes = shapes-set m x (child (2 * v) (depth-left v (in-range m .node1) v16) (omega arith));
-          bounds =
-              rw (decrement-is (counterAt s v))
-              (bounds-left c M (m .reach .ranges .limits) (s .process) (s .counters) (processes-fit m) (m .reach .ranges .process) (m .inv .bounds) p (m .known) (omega arith) below
-              x (omega arith) (claiming .flat below) refl (counters-fit m) paid);
-          bits = bits-keep c (s .process) (s .words) p x (processes-fit m) (m .known) (m .inv .bits) refl;
-          gate = gate-same m x (both-beyond m x (omega arith) (omega arith)) (λ t. omega arith);
-        }
+    left-keeps : 0 < counterAt s v → Invariant M (lower (2 * v))
+    left-keeps some =
+        lower-keeps (2 * v) (depth-left v (own-range m .node1) (omega (arith, leaves-16 m))) (omega arith)
+        (rw (decrement-is (counterAt s v))
+        (bounds-left m (claimed (Left (2 * v)) h) (omega arith) (omega arith) below (claiming .flat below) refl some))
 
-    right-keeps : counterAt s v ≡ 0 → Invariant M (update p (claimed (Right (2 * v + 1))) (withCounter v (boundedDecrement (counterAt s v) .word) s))
+    right-keeps : counterAt s v ≡ 0 → Invariant M (lower (2 * v + 1))
     right-keeps empty =
-        let x : Process = withSteps (h .steps + 1) (withNode (2 * v + 1) h) in
-        let unchanged : set (s .counters) v (boundedDecrement (counterAt s v) .word) ≡ s .counters
+        let unchanged : set (s .counters) v counter ≡ s .counters
         = ap (λ (n : ℕ). set (s .counters) v n) (decrement-is (counterAt s v) ∙ omega arith) ∙ set-getD (s .counters) v 0 in
-        record {
-          shapes = shapes-set m x (child (2 * v + 1) (depth-right v (in-range m .node1) v16) (omega arith));
-          bounds =
-              rw unchanged
-              (bounds-right c M (m .reach .ranges .limits) (s .process) (s .counters) (processes-fit m) (m .reach .ranges .process) (m .inv .bounds) p (m .known) (omega arith) below
-              x (omega arith) (claiming .flat below) refl empty);
-          bits = bits-keep c (s .process) (s .words) p x (processes-fit m) (m .known) (m .inv .bits) refl;
-          gate = gate-same m x (both-beyond m x (omega arith) (omega arith)) (λ t. omega arith);
-        }
+        lower-keeps (2 * v + 1) (depth-right v (own-range m .node1) (omega (arith, leaves-16 m))) (omega arith)
+        (rw unchanged (bounds-right m (claimed (Left (2 * v + 1)) h) (omega arith) (omega arith) below (claiming .flat below) refl empty))
 
     descend-keeps : Invariant M (descend s p)
     unfolding descend side
     descend-keeps =
-        by-cond (λ (k : ClaimStep). Invariant M (update p (claimed k) (withCounter v (boundedDecrement (counterAt s v) .word) s)))
+        by-cond (λ (k : ClaimStep). Invariant M (update p (claimed k) (withCounter v counter s)))
         (ltb 0 (boundedDecrement (counterAt s v) .answer))
         (λ e. left-keeps (unfold boundedDecrement in ltb-true 0 (counterAt s v) e))
         (λ e. right-keeps (unfold boundedDecrement in omega (arith, ltb-false 0 (counterAt s v) e)))
 
-  -- at a leaf
-  module _ (leafy : s .leaves ≤ h .node) where
+  module _ (leafy : c .leaves ≤ h .node) where
     abbrev r : ℕ
-    r = segmentOf s h
+    r = segmentOf (s .setup) h
 
     abbrev w : ℕ
     w = wordAt s r
 
     abbrev f : ℕ
-    f = firstZero (s .bits) w
+    f = firstZero (c .bits) w
 
-    r-used : r < s .leaves * s .segments
-    r-used = leaf-segment (in-range m) leafy
+    -- the state after a step at the leaf
+    abbrev probed : ClaimStep → State
+    probed k = update p (claimed k) (withWord r (setFirstZero (c .bits) w .word) s)
 
-    level : log2 (h .node) ≡ height (s .leaves)
+    r-used : r < words c
+    r-used = leaf-segment (own-range m) leafy
+
+    level : log2 (h .node) ≡ height (c .leaves)
     level =
-        let j : ℕ = h .node - s .leaves in
-        let e : s .leaves + j ≡ h .node = omega arith in
-        rw e at (leaf (s .leaves) j (m .reach .ranges .limits .leaves) (omega (arith, in-range m .node)) .level)
-
-    stands : (q : ℕ) → q < s .processes → at (s .process) q .name ≢ none → Stands c (at (s .process) q)
-    stands q l d = m .inv .shapes q l .held d .stands
+        let j : ℕ = h .node - c .leaves in
+        let e : c .leaves + j ≡ h .node = omega arith in
+        rw e at (leaf-level (c .leaves) (limits m .leaves) {j = j} (omega (arith, own-range m .node)))
 
     -- the bits below the first clear one are set
-    filled : (n : ℕ) → n ≤ f → (i : ℕ) → i < n → bit w i ≡ ind (isOpen c (r * s .bits + i))
-    filled n k i l = unfold isOpen in first-zero-below (s .bits) w i (omega arith)
+    filled : (n : ℕ) → n ≤ f → Filled m r n
+    filled n k i l = unfold isOpen in first-zero-below (c .bits) w i (omega arith)
 
-    won-keeps : f < s .bits → Invariant M (update p (claimed (Won (r * s .bits + f))) (withWord r (setFirstZero (s .bits) w .word) s))
+    won-keeps : f < c .bits → Invariant M (probed (Won (r * c .bits + f)))
     won-keeps k =
-        let x : Process = claimed (Won (r * s .bits + f)) h in
-        let word : setFirstZero (s .bits) w .word ≡ w + 2 ^ f = unfold setFirstZero in rw (lt-ltb f (s .bits) k) in
-        let held : Held c M x
-        = record {
-          stands = record { busy = omega arith; leaf = leafy; mark = f; within = k; is = refl };
-          low =
-              low-name c M (m .reach .ranges .limits) (s .process) (s .counters) (s .words) (processes-fit m) (m .reach .ranges .process) stands (m .inv .bounds) (m .inv .bits) p (m .known)
-              (omega arith) (claiming .nameless) leafy f k (filled f (omega arith));
-        } in
-        let sh : Shape c M x
-        = record {
-          held = λ _. held;
-          most = omega (arith, claiming .steps, level, in-range m .segment);
-          by = record { named = λ e. omega (arith, m .reach .ranges .limits .k64, digits-lt r-used k); steps = omega (arith, claiming .steps, level) };
-        } in
+        let x : Process = claimed (Won (r * c .bits + f)) h in
+        let word : setFirstZero (c .bits) w .word ≡ w + 2 ^ f = unfold setFirstZero in rw (lt-ltb f (c .bits) k) in
         record {
-          shapes = shapes-set m x sh;
+          shapes = shapes-set m x
+              (record {
+                stands = λ _. record { busy = omega arith; leaf = leafy; mark = f; within = k; is = refl };
+                low = λ _. low-name m st leafy f k (filled f (omega arith));
+                most = omega (arith, claiming .steps, level, own-range m .segment);
+                by =
+                    record {
+                      named = λ e. omega (arith, limits m .k64, digits-lt r-used k);
+                      steps = omega (arith, claiming .steps, level);
+                    };
+              });
+          gate = gate-past m x (omega arith) (omega arith);
+          bits = rw word (bits-win m r-used k x (claiming .nameless) refl (first-zero-clear (c .bits) w k));
           bounds = stays-put m x (omega arith) (omega arith) refl refl;
-          bits =
-              rw word
-              (bits-win c (s .process) (s .words) p x (processes-fit m) (m .known) (m .inv .bits) (m .reach .ranges .limits .k64) (words-fit m) r f r-used k (claiming .nameless) refl
-              (first-zero-clear (s .bits) w k));
-          gate = gate-same m x (both-beyond m x (omega arith) (omega arith)) (λ e. omega arith);
         }
 
-    module _ (full : s .bits ≤ f) where
-      room : suc (h .segment) < s .segments
-      room =
-          not-last c M (m .reach .ranges .limits) (s .process) (s .counters) (s .words) (processes-fit m) (m .reach .ranges .process) stands (m .inv .bounds) (m .inv .bits) p (m .known)
-          (omega arith) (claiming .nameless) leafy (filled (s .bits) full)
+    module _ (full : c .bits ≤ f) where
+      room : suc (h .segment) < c .segments
+      room = not-last m st leafy (filled (c .bits) full)
 
-      next-keeps : Invariant M (update p (claimed (NextSegment (h .segment + 1))) (withWord r (setFirstZero (s .bits) w .word) s))
+      next-keeps : Invariant M (probed (NextSegment (h .segment + 1)))
       next-keeps =
           let x : Process = claimed (NextSegment (h .segment + 1)) h in
-          let word : setFirstZero (s .bits) w .word ≡ w = unfold setFirstZero in rw (le-ltb f (s .bits) full) in
-          let unchanged : set (s .words) r (setFirstZero (s .bits) w .word) ≡ s .words
+          let word : setFirstZero (c .bits) w .word ≡ w = unfold setFirstZero in rw (le-ltb f (c .bits) full) in
+          let unchanged : set (s .words) r (setFirstZero (c .bits) w .word) ≡ s .words
           = ap (λ (n : ℕ). set (s .words) r n) word ∙ set-getD (s .words) r 0 in
-          let k : Claiming c M x
-          = record { nameless = claiming .nameless; flat = λ l. absurd (omega arith); steps = omega (arith, claiming .steps) } in
-          let sh : Shape c M x
-          = record {
-            held = λ d. absurd (d (claiming .nameless));
-            most = omega (arith, claiming .steps, level, room);
-            by = subst (λ (n : ℕ). ByStage c M n x) (sym stage3) k;
-          } in
           record {
-            shapes = shapes-set m x sh;
-            bounds =
-                bounds-next c M (m .reach .ranges .limits) (s .process) (s .counters) (s .words) (processes-fit m) (m .reach .ranges .process) stands (m .inv .bounds) (m .inv .bits) p (m .known)
-                (omega arith) (claiming .nameless) leafy (filled (s .bits) full) x (omega arith) refl (omega arith);
-            bits = rw unchanged (bits-keep c (s .process) (s .words) p x (processes-fit m) (m .known) (m .inv .bits) refl);
-            gate = gate-same m x (both-beyond m x (omega arith) (omega arith)) (λ e. omega arith);
+            shapes = shapes-nameless m x getname st (claiming .nameless) (omega (arith, claiming .steps, level, room))
+                (record { nameless = claiming .nameless; flat = λ l. absurd (omega arith); steps = omega (arith, claiming .steps) });
+            gate = gate-past m x (omega arith) (omega arith);
+            bits = rw unchanged (bits-same m x refl);
+            bounds = bounds-next m st leafy (filled (c .bits) full) x (omega arith) refl (omega arith);
           }
 
     probe-keeps : Invariant M (probe s p)
     unfolding probe outcome setFirstZero
     probe-keeps =
-        let After : ClaimStep → Type 0 = λ k. Invariant M (update p (claimed k) (withWord r (setFirstZero (s .bits) w .word) s)) in
-        by-cond After (ltb (setFirstZero (s .bits) w .answer) (s .bits))
-        (λ e. won-keeps (ltb-true f (s .bits) e))
+        by-cond (λ k. Invariant M (probed k)) (ltb (setFirstZero (c .bits) w .answer) (c .bits))
+        (λ e. won-keeps (ltb-true f (c .bits) e))
         (λ e.
-        let full : s .bits ≤ f = ltb-false f (s .bits) e in
-        by-cond After (ltb (h .segment + 1) (s .segments))
+        let full : c .bits ≤ f = ltb-false f (c .bits) e in
+        by-cond (λ k. Invariant M (probed k)) (ltb (h .segment + 1) (c .segments))
         (λ _. next-keeps full)
-        (λ d. absurd (omega (arith, room full, ltb-false (h .segment + 1) (s .segments) d))))
+        (λ d. absurd (omega (arith, room full, ltb-false (h .segment + 1) (c .segments) d))))
 
   pub getname-keeps : Invariant M (getnameStep s p)
   unfolding getnameStep
   getname-keeps =
-      by-cond (Invariant M) (ltb (h .node) (s .leaves)) (λ e. descend-keeps (ltb-true _ _ e)) (λ e. probe-keeps (ltb-false _ _ e))
+      by-cond (Invariant M) (ltb (h .node) (c .leaves)) (λ e. descend-keeps (ltb-true _ _ e)) (λ e. probe-keeps (ltb-false _ _ e))

@@ -9,8 +9,8 @@ use Rattle.machine.specs.Admitted.{admitted}
 use Rattle.machine.specs.Lists.{Event, eventsOf, journal}
 use Rattle.machine.specs.Reports.{statusOf}
 use Rattle.machine.specs.Runs.{ask, turn, finish, line}
-use Rattle.machine.specs.Setup.{height}
 use Rattle.machine.specs.Stage.{remainder, entry, waiting, getname, working, putname}
+use Rattle.machine.specs.Setup.{plain, height}
 use Rattle.machine.specs.State.{none, processAt, counterAt, fresh}
 use Rattle.renaming_claim.specs.Claim.{afterList}
 
@@ -34,7 +34,7 @@ drawn =
 
 pub record Reached : Type 0 where
   -- 1 waits in the queue while 0 holds the only name; when 0 is back in its remainder section, 1 goes on and takes the name over
-  pub taken-over : journal (fresh 2 1 1 1) served
+  pub taken-over : journal (fresh (plain 2 1 1 1)) served
       ≡ line 0 entry none 0
       ++ line 0 getname none 0
       ++ line 0 working 0 1
@@ -45,9 +45,9 @@ pub record Reached : Type 0 where
       ++ line 0 remainder none 1
       ++ line 0 getname none 0
       ++ line 0 working 0 1
-  pub one-admitted : admitted (afterList 2 1 1 1 (take 5 served)) ≡ 1
+  pub one-admitted : admitted (afterList (plain 2 1 1 1) (take 5 served)) ≡ 1
   -- two are admitted, the names are 0 and 1; the cheapest claim takes h + 1 steps, the dearest h + g
-  pub dearest : journal (fresh 2 2 2 1) costly
+  pub dearest : journal (fresh (plain 2 2 2 1)) costly
       ≡ line 0 entry none 0
       ++ line 0 getname none 0
       ++ line 0 getname none 1
@@ -58,17 +58,18 @@ pub record Reached : Type 0 where
       ++ line 0 getname none 2
       ++ line 0 working 1 3
   pub dearest-steps : (height 2 + 1 ≡ 2) × (height 2 + 2 ≡ 3)
-  pub two-admitted : admitted (afterList 2 2 2 1 costly) ≡ 2
+  pub two-admitted : admitted (afterList (plain 2 2 2 1) costly) ≡ 2
   -- the drawing: 0 holds name 0; 1 and 2 are in getname, at segment 1 of the left leaf and at the right leaf; 3 has just come in; 4 waits
-  pub drawn-journal : map (λ p. statusOf (processAt (afterList 5 2 2 1 drawn) p)) (0 ∷ 1 ∷ 2 ∷ 3 ∷ 4 ∷ [])
+  pub drawn-journal : map (λ p. statusOf (processAt (afterList (plain 5 2 2 1) drawn) p)) (0 ∷ 1 ∷ 2 ∷ 3 ∷ 4 ∷ [])
       ≡ record { stage = working; name = 0; steps = 2 }
       ∷ record { stage = getname; name = none; steps = 2 }
       ∷ record { stage = getname; name = none; steps = 1 }
       ∷ record { stage = getname; name = none; steps = 0 }
       ∷ record { stage = waiting; name = none; steps = 0 }
       ∷ []
-  pub drawn-gate : (afterList 5 2 2 1 drawn .gate ≡ negsuc 0) × (admitted (afterList 5 2 2 1 drawn) ≡ 4)
-  pub drawn-nodes : map (λ p. processAt (afterList 5 2 2 1 drawn) p .node) (0 ∷ 1 ∷ 2 ∷ 3 ∷ 4 ∷ []) ≡ 2 ∷ 2 ∷ 3 ∷ 1 ∷ 1 ∷ []
-  pub drawn-segments : map (λ p. processAt (afterList 5 2 2 1 drawn) p .segment) (0 ∷ 1 ∷ 2 ∷ 3 ∷ 4 ∷ []) ≡ 0 ∷ 1 ∷ 0 ∷ 0 ∷ 0 ∷ []
-  pub drawn-queue : (afterList 5 2 2 1 drawn .queued ≡ 1) × (take 1 (afterList 5 2 2 1 drawn .queue) ≡ 4 ∷ [])
-  pub drawn-places : (counterAt (afterList 5 2 2 1 drawn) 1 ≡ 0) × (take 4 (afterList 5 2 2 1 drawn .words) ≡ 1 ∷ 0 ∷ 0 ∷ 0 ∷ [])
+  pub drawn-gate : (afterList (plain 5 2 2 1) drawn .gate ≡ negsuc 0) × (admitted (afterList (plain 5 2 2 1) drawn) ≡ 4)
+  pub drawn-nodes : map (λ p. processAt (afterList (plain 5 2 2 1) drawn) p .node) (0 ∷ 1 ∷ 2 ∷ 3 ∷ 4 ∷ []) ≡ 2 ∷ 2 ∷ 3 ∷ 1 ∷ 1 ∷ []
+  pub drawn-segments : map (λ p. processAt (afterList (plain 5 2 2 1) drawn) p .segment) (0 ∷ 1 ∷ 2 ∷ 3 ∷ 4 ∷ []) ≡ 0 ∷ 1 ∷ 0 ∷ 0 ∷ 0 ∷ []
+  pub drawn-queue : (afterList (plain 5 2 2 1) drawn .queued ≡ 1) × (take 1 (afterList (plain 5 2 2 1) drawn .queue) ≡ 4 ∷ [])
+  pub drawn-places : (counterAt (afterList (plain 5 2 2 1) drawn) 1 ≡ 0)
+      × (take 4 (afterList (plain 5 2 2 1) drawn .words) ≡ 1 ∷ 0 ∷ 0 ∷ 0 ∷ [])

@@ -21,6 +21,7 @@ use Rattle.machine.specs.Putname.{giveBack, putnameStep}
 use Rattle.machine.specs.Runs.{ask, turn, finish}
 use Rattle.machine.specs.Setup.{log2}
 use Rattle.machine.specs.Stage.{remainder, entry, working, putname, exhausted}
+use Rattle.machine.specs.Setup.{plain}
 use Rattle.machine.specs.State.{none, freshProcess, withStage, withNode, withSegment, processAt, counterAt, wordAt, withCounter, withProcess, update, fresh}
 use Rattle.machine.specs.declared.ClaimStep.{ClaimStep}
 use Rattle.machine.specs.declared.ClaimStep.the-variants.{Left, Right}
@@ -89,7 +90,12 @@ fromGap s p =
     cond (eqb (processAt t p .stage) working) (withCounter v (processAt t p .segment) t) t
 
 abbrev pub lastGap : Variant
-lastGap = record { enters = enter; claims = λ s p. cond (ltb (processAt s p .node) (s .leaves)) (descend s p) (fromGap s p); returns = putnameStep }
+lastGap =
+    record {
+      enters = enter;
+      claims = λ s p. cond (ltb (processAt s p .node) (s .setup .leaves)) (descend s p) (fromGap s p);
+      returns = putnameStep;
+    }
 
 -- The gate is raised by the first step of the return, the bit cleared by the next; `segment` says that the gate was raised, with one
 -- segment in a leaf.
@@ -113,7 +119,7 @@ abbrev pub rightAtOne : Variant
 rightAtOne =
     record {
       enters = enter;
-      claims = λ s p. cond (ltb (processAt s p .node) (s .leaves)) (descendAtTwo s p) (probe s p);
+      claims = λ s p. cond (ltb (processAt s p .node) (s .setup .leaves)) (descendAtTwo s p) (probe s p);
       returns = putnameStep;
     }
 
@@ -144,16 +150,16 @@ abbrev pub right-at-one : List Event
 right-at-one = eventsOf (wins 0 ++ wins 1)
 
 pub record Repairs : Type 0 where
-  pub no-root-first : processAt (run bitThenRoot (fresh 3 4 1 1) root-first) 2 .stage ≡ exhausted
-  pub no-root-then-bit : processAt (run rootThenBit (fresh 2 2 1 1) root-then-bit) 1 .stage ≡ exhausted
-  pub no-last-gap : processAt (run lastGap (fresh 2 1 2 1) last-gap) 0 .stage ≡ exhausted
+  pub no-root-first : processAt (run bitThenRoot (fresh (plain 3 4 1 1)) root-first) 2 .stage ≡ exhausted
+  pub no-root-then-bit : processAt (run rootThenBit (fresh (plain 2 2 1 1)) root-then-bit) 1 .stage ≡ exhausted
+  pub no-last-gap : processAt (run lastGap (fresh (plain 2 1 2 1)) last-gap) 0 .stage ≡ exhausted
   -- while name 0 is free
-  pub no-last-gap-free : wordAt (run lastGap (fresh 2 1 2 1) last-gap) 0 ≡ 0
-  pub no-gate-first : admitted (run gateFirst (fresh 2 1 1 1) gate-first) ≡ 2
-  pub no-right-at-one : processAt (run rightAtOne (fresh 2 2 1 1) right-at-one) 1 .stage ≡ exhausted
+  pub no-last-gap-free : wordAt (run lastGap (fresh (plain 2 1 2 1)) last-gap) 0 ≡ 0
+  pub no-gate-first : admitted (run gateFirst (fresh (plain 2 1 1 1)) gate-first) ≡ 2
+  pub no-right-at-one : processAt (run rightAtOne (fresh (plain 2 2 1 1)) right-at-one) 1 .stage ≡ exhausted
   -- on the same lists document 01's machine wins, waits or is still on its way
-  pub right-root-first : processAt (run right (fresh 3 4 1 1) root-first) 2 .stage ≡ working
-  pub right-root-then-bit : processAt (run right (fresh 2 2 1 1) root-then-bit) 1 .stage ≡ working
-  pub right-last-gap : processAt (run right (fresh 2 1 2 1) last-gap) 0 .stage ≡ working
-  pub right-gate-first : admitted (run right (fresh 2 1 1 1) gate-first) ≡ 1
-  pub right-right-at-one : processAt (run right (fresh 2 2 1 1) right-at-one) 1 .stage ≡ working
+  pub right-root-first : processAt (run right (fresh (plain 3 4 1 1)) root-first) 2 .stage ≡ working
+  pub right-root-then-bit : processAt (run right (fresh (plain 2 2 1 1)) root-then-bit) 1 .stage ≡ working
+  pub right-last-gap : processAt (run right (fresh (plain 2 1 2 1)) last-gap) 0 .stage ≡ working
+  pub right-gate-first : admitted (run right (fresh (plain 2 1 1 1)) gate-first) ≡ 1
+  pub right-right-at-one : processAt (run right (fresh (plain 2 2 1 1)) right-at-one) 1 .stage ≡ working

@@ -15,7 +15,7 @@ main-spec =
     (tie.spec Inv-loop μ-loop
     -- before the loop
     (λ c. search needs)
-    -- `!roll::next()`
+    -- `!records::next()`
     (λ c κs. search needs) (λ c. search needs)
     -- a turn
     (λ c. search needs) (λ c. search needs) (λ c. search needs)

@@ -10,15 +10,19 @@ use Rattle.cases.proofs.image.digest.Tie as tie
 returns : tie.Need-returns
 unfolding imageOf
 returns c =
-    let s = c .before .before .before .before .before .before .before .before .before .before .before .before .before .before .args .state in
+    let words = c .before in
+    let counters = words .before .before in
+    let queue = counters .before .before in
+    let first = queue .before .before in
+    let gate = first .before .before .before .before .before in
     simp (
       c .mix-processes .ensures .0,
-      c .before .mix-bytes4 .ensures .0,
-      c .before .before .before .mix-bytes3 .ensures .0,
-      c .before .before .before .before .before .mix-bytes2 .ensures .0,
-      c .before .before .before .before .before .before .before .mix-bytes .ensures .0,
-      c .before .before .before .before .before .before .before .before .before .before .before .before .unsigned .ensures,
-      toZ-ofZ {w = w8} {z = s .gate} (search needs),
+      words .mix-bytes4 .ensures .0,
+      counters .mix-bytes3 .ensures .0,
+      queue .mix-bytes2 .ensures .0,
+      first .mix-bytes .ensures .0,
+      gate .unsigned .ensures,
+      toZ-ofZ {w = w8} {z = gate .before .before .args .state .gate} (search needs),
       digest-append,
     )
 
@@ -26,6 +30,11 @@ pub digest-spec : {M : Type 1} → statement M
 digest-spec =
     tie.close
     (tie.spec
-    (λ c κs. search needs) (λ c. search needs) (λ c κs. search needs) (λ c. search needs) (λ c κs. search needs)
-    (λ c. search needs) (λ c κs. search needs) (λ c. search needs) (λ c κs. search needs) (λ c κs. search needs)
-    returns)
+    -- the setup, the gate and how many are queued
+    (λ c κs. search needs) (λ c. search needs) (λ c κs. search needs)
+    -- the queue, the counters and the words
+    (λ c. search needs) (λ c κs. search needs)
+    (λ c. search needs) (λ c κs. search needs)
+    (λ c. search needs) (λ c κs. search needs)
+    -- the processes
+    (λ c κs. search needs) returns)

@@ -9,12 +9,15 @@ use Rattle.cases.proofs.line.put_line.Tie as tie
 returns : tie.Need-returns
 unfolding lineOf
 returns c =
-    let a = c .before .before .before .before .before .before .before .before .before .before .before .put-text in
-    let b = c .before .before .before .before .before .before .before .put-figures in
-    let e = c .before .before .put-text2 in
-    let s = c .before .before .before .before .before .before .before .before .before .before .before .before .before .before .before .before in
-    let word : Put (s .args .line .now) (a .last .0) 0 (a .result) (s .args .word .now) = as-put (a .ensures) in
-    let numbers : Put (a .last .0) (b .last .0) (a .result) (b .result) (figures (s .args .numbers .now)) = as-put (b .ensures) in
+    let c₃ = c .before .before in
+    let c₂ = c₃ .before .before .before .before .before in
+    let c₁ = c₂ .before .before .before .before in
+    let s = c₁ .before .before .before .before .before .args in
+    let a = c₁ .put-text in
+    let b = c₂ .put-figures in
+    let e = c₃ .put-text2 in
+    let word : Put (s .line .now) (a .last .0) 0 (a .result) (s .word .now) = as-put (a .ensures) in
+    let numbers : Put (a .last .0) (b .last .0) (a .result) (b .result) (figures (s .numbers .now)) = as-put (b .ensures) in
     let end : Put (b .last .0) (e .last .0) (b .result) (e .result) (10 ∷ []) = as-put (e .ensures) in
     let whole = put-more word (put-more numbers end) in
     (put-first whole, put-counts whole)
@@ -23,5 +26,7 @@ pub put-line-spec : {M : Type 1} → statement M
 put-line-spec =
     tie.close
     (tie.spec
-    (λ c κs. search needs) (λ c κs. search needs) (λ c. search needs) (λ c κs. search needs) (λ c. search needs)
-    returns)
+    -- the word and the numbers
+    (λ c κs. search needs) (λ c κs. search needs)
+    -- the line feed
+    (λ c. search needs) (λ c κs. search needs) (λ c. search needs) returns)

@@ -1,17 +1,15 @@
 -- Stages 1, 2 and 6: entering stays in range exactly when the gate word and the queue have room, and waiting always does.
 -- The gate word and the queue's length after the step are read off, both ways. Assumes nothing.
-use mathlib.Core.Path.{_≡_, refl, sym, _∙_}
-use mathlib.Core.Bool.{Bool, true, false, cond, _&&_, false≢true}
 use Prim.Native.Nat.{ℕ, zero, suc, _<_}
-use native.Mathlib.Omega.{arith}
 use lib.Dec.{ltb, leb·suc-suc}
 use lib.IntN.{ℤ, pos, negsuc, sucℤ, predℤ}
-use borrow.Author.Tests.{leb-true, ltb-true, le-leb, lt-ltb}
+use Rattle.machine.proofs.Rules.{_≡_, _∙_, sym, refl, true, false, cond, Bool, _&&_, false≢true, arith, lt-ltb, le-leb, ltb-true, leb-true}
 use Rattle.machine.specs.Gate.{above0, inQueue, lowered, joined, enter, await}
 use Rattle.machine.specs.Range.{gateInRange, inRange, ProcessRanges}
 use Rattle.machine.specs.Room.{canFall, canRise, enterRoom}
 use Rattle.machine.specs.Stage.{waiting, getname}
-use Rattle.machine.specs.State.{withStage, processAt, namesOf, update}
+use Rattle.machine.specs.Setup.{names}
+use Rattle.machine.specs.State.{withStage, processAt, update}
 use Rattle.machine.specs.declared.State.{State}
 use Rattle.machine.proofs.Facts.Tests.{by-cond, both, and-left, and-right, same-test}
 use Rattle.machine.proofs.Ranges.{Ranges, ranges-of, in-range}
@@ -34,19 +32,19 @@ unfolding above0 canFall
 above-falls (pos n) e = refl
 above-falls (negsuc n) e = absurd (false≢true e)
 
-module _ (s : State) (p : ℕ) (k : Ranges s) (kp : p < s .processes) where
-  h : ProcessRanges (s .leaves) (s .segments) (s .bits) (processAt s p)
+module _ (s : State) (p : ℕ) (k : Ranges s) (kp : p < s .setup .processes) where
+  h : ProcessRanges (s .setup) (processAt s p)
   h = k .process p kp
 
   lowered-ranges : canFall (s .gate) ≡ true → Ranges (lowered s)
-  lowered-ranges e = set-gate s k (predℤ (s .gate)) (gate-falls (namesOf s) (s .gate) (k .gate) ∙ e)
+  lowered-ranges e = set-gate s k (predℤ (s .gate)) (gate-falls (names (s .setup)) (s .gate) (k .gate) ∙ e)
 
   queue-room : inRange (update p (withStage waiting) (joined p (lowered s))) ≡ (canFall (s .gate) && ltb (s .queued) 64)
   queue-room =
       same-test _ (canFall (s .gate) && ltb (s .queued) 64)
       (λ i.
       let r = ranges-of _ i in
-      both (sym (gate-falls (namesOf s) (s .gate) (k .gate)) ∙ r .gate) (lt-ltb (s .queued) 64 (omega (arith, r .queue .size))))
+      both (sym (gate-falls (names (s .setup)) (s .gate) (k .gate)) ∙ r .gate) (lt-ltb (s .queued) 64 (omega (arith, r .queue .size))))
       (λ i.
       let falls = lowered-ranges (and-left (canFall (s .gate)) (ltb (s .queued) 64) i) in
       let free = ltb-true (s .queued) 64 (and-right (canFall (s .gate)) (ltb (s .queued) 64) i) in

@@ -1,17 +1,15 @@
 -- Stage 3: a getname step stays in range exactly when one step more is at most 255. Node, segment, name, counter and word stay
 -- in range whatever the step does. Assumes nothing.
-use mathlib.Core.Path.{_≡_}
 use Prim.Native.Nat.{ℕ, _+_, _*_, _≤_, _<_}
-use native.Mathlib.Omega.{arith}
 use lib.Arith.{digits-lt}
 use lib.Dec.{ltb}
 use lib.ListN.{length}
-use borrow.Author.Tests.{ltb-true, ltb-false, lt-ltb}
+use Rattle.machine.proofs.Rules.{_≡_, arith, lt-ltb, ltb-false, ltb-true}
 use Rattle.machine.specs.Getname.{moved, claimed, side, outcome, segmentOf, descend, probe, getnameStep}
 use Rattle.machine.specs.Operations.{setFirstZero, boundedDecrement}
 use Rattle.machine.specs.Range.{inRange, ProcessRanges}
 use Rattle.machine.specs.Room.{getnameRoom}
-use Rattle.machine.specs.State.{processAt, counterAt, wordAt, namesOf, freshCounter, withCounter, withWord, update}
+use Rattle.machine.specs.State.{processAt, counterAt, wordAt, freshCounter, withCounter, withWord, update}
 use Rattle.machine.specs.declared.ClaimStep.{ClaimStep}
 use Rattle.machine.specs.declared.State.{State}
 use Rattle.machine.proofs.Facts.Tests.{by-cond, same-test}
@@ -21,8 +19,8 @@ use Rattle.machine.proofs.Ranges.{Ranges, ranges-of, in-range}
 use Rattle.machine.proofs.Stores.{new-stage, new-node, own-record, store-process, store-counter, store-word}
 
 -- a step whose other numbers are in range has room exactly when its steps have
-claim-room : (t : State) (p : ℕ) → Ranges t → p < t .processes → length (t .process) ≡ 64 → (c : ClaimStep)
-    → ProcessRanges (t .leaves) (t .segments) (t .bits) (moved c (processAt t p))
+claim-room : (t : State) (p : ℕ) → Ranges t → p < t .setup .processes → length (t .process) ≡ 64 → (c : ClaimStep)
+    → ProcessRanges (t .setup) (moved c (processAt t p))
     → inRange (update p (claimed c) t) ≡ getnameRoom t p
 claim-room t p k kp e c m =
     same-test _ (getnameRoom t p)
@@ -41,61 +39,62 @@ claim-room t p k kp e c m =
       steps = omega (arith, ltb-true (processAt t p .steps) 255 i);
     })))
 
-module _ (s : State) (p : ℕ) (k : Ranges s) (kp : p < s .processes) (sized : length (s .process) ≡ 64) where
-  h : ProcessRanges (s .leaves) (s .segments) (s .bits) (processAt s p)
+module _ (s : State) (p : ℕ) (k : Ranges s) (kp : p < s .setup .processes) (sized : length (s .process) ≡ 64) where
+  h : ProcessRanges (s .setup) (processAt s p)
   h = k .process p kp
 
   -- the process as a getname step leaves it, but for its steps
   abbrev InRange : ClaimStep → Type 0
-  InRange c = ProcessRanges (s .leaves) (s .segments) (s .bits) (moved c (processAt s p))
+  InRange c = ProcessRanges (s .setup) (moved c (processAt s p))
 
-  side-ranges : (old : ℕ) → processAt s p .node < s .leaves → InRange (side (processAt s p .node) old)
+  side-ranges : (old : ℕ) → processAt s p .node < s .setup .leaves → InRange (side (processAt s p .node) old)
   unfolding side
   side-ranges old l =
       by-cond InRange (ltb 0 old)
       (λ _. new-node _ (omega (arith, h .node1)) (omega arith) h)
       (λ _. new-node _ (omega arith) (omega arith) h)
 
-  outcome-ranges : (r m : ℕ) → r < s .leaves * s .segments
-      → InRange (outcome (s .segments) (s .bits) r (processAt s p .segment) m)
+  outcome-ranges : (r m : ℕ) → r < s .setup .leaves * s .setup .segments
+      → InRange (outcome (s .setup) r (processAt s p .segment) m)
   unfolding outcome
   outcome-ranges r m l =
-      by-cond InRange (ltb m (s .bits))
+      by-cond InRange (ltb m (s .setup .bits))
       (λ e.
       record {
         stage = omega arith;
         node1 = h .node1;
         node = h .node;
         segment = h .segment;
-        name = λ _. digits-lt l (ltb-true m (s .bits) e);
+        name = λ _. digits-lt l (ltb-true m (s .setup .bits) e);
         steps = h .steps;
       })
       (λ _.
-      by-cond InRange (ltb (processAt s p .segment + 1) (s .segments))
+      by-cond InRange (ltb (processAt s p .segment + 1) (s .setup .segments))
       (λ e. record { stage = h .stage; node1 = h .node1; node = h .node; segment = ltb-true _ _ e; name = h .name; steps = h .steps })
       (λ _. new-stage 6 (omega arith) h))
 
-  descend-room : processAt s p .node < s .leaves → inRange (descend s p) ≡ getnameRoom s p
+  descend-room : processAt s p .node < s .setup .leaves → inRange (descend s p) ≡ getnameRoom s p
   unfolding descend
   descend-room l =
       let v : ℕ = processAt s p .node in
       let c = boundedDecrement (counterAt s v) in
-      let low : c .word ≤ freshCounter (namesOf s) v = omega (arith, decremented-le (counterAt s v), k .counters v (h .node1) l) in
+      let low : c .word ≤ freshCounter (s .setup) v = omega (arith, decremented-le (counterAt s v), k .counters v (h .node1) l) in
       claim-room (withCounter v (c .word) s) p (store-counter s k v (c .word) low) kp sized (side v (c .answer)) (side-ranges (c .answer) l)
 
-  probe-room : s .leaves ≤ processAt s p .node → inRange (probe s p) ≡ getnameRoom s p
+  probe-room : s .setup .leaves ≤ processAt s p .node → inRange (probe s p) ≡ getnameRoom s p
   unfolding probe
   probe-room e =
-      let r : ℕ = segmentOf s (processAt s p) in
-      let l : r < s .leaves * s .segments = leaf-segment h e in
-      let w = setFirstZero (s .bits) (wordAt s r) in
-      claim-room (withWord r (w .word) s) p (store-word s k r (w .word) (set-first-zero-lt (s .bits) (wordAt s r) (k .words r l))) kp sized
-      (outcome (s .segments) (s .bits) r (processAt s p .segment) (w .answer))
+      let r : ℕ = segmentOf (s .setup) (processAt s p) in
+      let l : r < s .setup .leaves * s .setup .segments = leaf-segment h e in
+      let w = setFirstZero (s .setup .bits) (wordAt s r) in
+      let low = set-first-zero-lt (s .setup .bits) (wordAt s r) (k .words r l) in
+      claim-room (withWord r (w .word) s) p (store-word s k r (w .word) low) kp sized
+      (outcome (s .setup) r (processAt s p .segment) (w .answer))
       (outcome-ranges r (w .answer) l)
 
   pub getname-room : inRange (getnameStep s p) ≡ getnameRoom s p
   unfolding getnameStep
   getname-room =
-      by-cond (λ (t : State). inRange t ≡ getnameRoom s p) (ltb (processAt s p .node) (s .leaves))
+      by-cond (λ (t : State). inRange t ≡ getnameRoom s p) (ltb (processAt s p .node) (s .setup .leaves))
       (λ e. descend-room (ltb-true _ _ e))
       (λ e. probe-room (ltb-false _ _ e))

@@ -10,14 +10,8 @@ pub claim-spec : {M : Type 1} → statement M
 claim-spec =
     tie.close
     (tie.spec
-    -- otherwise
+    -- the sum, and which variant it is
     (λ c. search needs) (λ c. search needs) (λ c. search needs) (λ c. search needs) (λ c. search needs) enum-told
-    (λ c. rw (c .before .c .given .1))
-    -- otherwise
-    (λ c. rw (c .before .c2 .given .1))
-    -- otherwise
-    (λ c. rw (c .before .c3 .given .1))
-    -- otherwise
-    (λ c. rw (c .before .c4 .given .1))
-    -- otherwise
-    (λ c. rw (c .enum-told .given .1)))
+    -- Left, Right, Won, NextSegment, Exhausted
+    (λ c. rw (c .before .c .given .1)) (λ c. rw (c .before .c2 .given .1)) (λ c. rw (c .before .c3 .given .1))
+    (λ c. rw (c .before .c4 .given .1)) (λ c. rw (c .enum-told .given .1)))

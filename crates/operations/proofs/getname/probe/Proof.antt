@@ -1,23 +1,27 @@
 -- `probe` meets its contract: the operation, its outcome, the claim, or 15. Assumes nothing.
-use borrow.Author.Tests.{lt-ltb, le-ltb}
+use Rattle.machine.proofs.Rules.{needs, lt-ltb, le-ltb}
 use Rattle.operations.specs.Moves.{probed}
-use borrow.Author.Needs.{needs}
+use Rattle.machine.proofs.Ranges.{limits-of}
+use Rattle.operations.proofs.Segments.{names-64}
 use Rattle.operations.proofs.getname.probe.Statement.{statement}
 use Rattle.operations.proofs.getname.probe.Tie as tie
 
 returns : tie.Need-returns
 unfolding probed
-returns c = simp (lt-ltb _ _ (c .before .before .before .if1 .taken), c .claim .ensures, c .before .outcome-of .ensures, c .before .before .set-first-zero .ensures)
-
-returns-2 : tie.Need-returns-2
-unfolding probed
-returns-2 c = simp (le-ltb _ _ (c .if1 .left))
+returns c =
+    let op = c .before .before in
+    simp (lt-ltb _ _ (op .before .if1 .taken), c .claim .ensures, c .before .outcome-of .ensures, op .set-first-zero .ensures)
 
 pub probe-spec : {M : Type 1} → statement M
 probe-spec =
     tie.close
     (tie.spec
-    -- `return Moved {`
-    (λ c κs. search needs) (λ c κs. search needs) (λ c κs. search needs) returns
-    -- otherwise
-    returns-2)
+    -- a step: the three calls
+    (λ c κs. let told = c .before .before .pre .0 in limits-of _ (told .accepted) .b8)
+    (λ c κs.
+    let start = c .before .before .before in
+    let told = start .pre .0 in
+    (told .ranges .segment, names-64 _ _ (told .accepted) (start .pre .1)))
+    (λ c κs. search needs) returns
+    -- no room for one
+    (λ c. unfold probed in simp (le-ltb _ _ (c .if1 .left))))

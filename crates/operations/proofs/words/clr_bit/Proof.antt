@@ -1,15 +1,13 @@
 -- `clr_bit` meets its contract: the two cases of its definition. Assumes nothing.
-use borrow.Author.Tests.{eq-eqb, ne-eqb}
+use Rattle.machine.proofs.Rules.{needs, ne-eqb, eq-eqb}
 use Rattle.machine.specs.Operations.{clrBit}
-use Rattle.operations.proofs.Bytes.{bit-le}
-use borrow.Author.Needs.{needs}
+use Rattle.machine.proofs.Facts.Words.{bit-le}
 use Rattle.operations.proofs.words.clr_bit.Statement.{statement}
 use Rattle.operations.proofs.words.clr_bit.Tie as tie
 
 sub-result : tie.Need-sub-result
 sub-result c =
-    let a = c .before .before .args in
-    rw (c .power .ensures) (bit-le (a .i) (a .w) (c .before .before .pre) (c .before .before .fits .w .fits) (c .before .if1 .taken))
+    let a = c .before .before .args in rw (c .power .ensures) (bit-le (a .w) (a .i) (c .before .if1 .taken))
 
 returns : tie.Need-returns
 unfolding clrBit
@@ -20,9 +18,10 @@ unfolding clrBit
 returns-2 c = simp (ne-eqb _ _ (c .if1 .left))
 
 pub clr-bit-spec : {M : Type 1} → statement M
-clr-bit-spec = tie.close
+clr-bit-spec =
+    tie.close
     (tie.spec
-    -- otherwise
+    -- the bit is set
     (λ c. search needs) (λ c κs. search needs) sub-result returns
-    -- otherwise
+    -- it is clear
     returns-2)

@@ -1,8 +1,7 @@
 -- `first_zero` meets its contract: the rule of trailing zeros, computed for every byte. Assumes nothing.
 use Prim.Native.Nat.{_-_}
-use native.Mathlib.Omega.{arith}
 use lib.Count.{trailing-le}
-use borrow.Author.Tests.{lt-ltb, le-ltb}
+use Rattle.machine.proofs.Rules.{arith, le-ltb, lt-ltb}
 use Rattle.operations.proofs.Bytes.{zeros-is}
 use Rattle.operations.proofs.words.first_zero.Statement.{statement}
 use Rattle.operations.proofs.words.first_zero.Tie as tie

@@ -5,6 +5,7 @@ use Rattle.operations.proofs.words.power.Statement.{statement}
 use Rattle.operations.proofs.words.power.Tie as tie
 
 pub power-spec : {M : Type 1} → statement M
-power-spec = tie.close
+power-spec =
+    tie.close
     (tie.spec
     (λ c. search needs) (λ c. shifted-is (c .args .i) (c .pre)))

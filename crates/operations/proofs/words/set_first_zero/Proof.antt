@@ -1,9 +1,7 @@
 -- `set_first_zero` meets its contract: the two cases of its definition. Assumes nothing.
-use native.Mathlib.Omega.{arith}
-use borrow.Author.Tests.{lt-ltb, le-ltb}
+use Rattle.machine.proofs.Rules.{arith, needs, le-ltb, lt-ltb}
 use Rattle.machine.specs.Operations.{setFirstZero}
 use Rattle.operations.proofs.Bytes.{set-below}
-use borrow.Author.Needs.{needs}
 use Rattle.operations.proofs.words.set_first_zero.Statement.{statement}
 use Rattle.operations.proofs.words.set_first_zero.Tie as tie
 
@@ -31,7 +29,7 @@ pub set-first-zero-spec : {M : Type 1} → statement M
 set-first-zero-spec =
     tie.close
     (tie.spec
-    -- `return Applied {`
+    -- a bit is clear
     (λ c κs. search needs) (λ c κs. search needs) add-t6 returns
-    -- otherwise
+    -- none is
     returns-2)

@@ -1,13 +1,10 @@
 -- `bits_past` meets its contract. The loop keeps that the bits are 0 where every place passed is in range; what is left of
 -- 64 falls.
 -- Assumes nothing.
-use mathlib.Core.Path.{_≡_, refl}
-use mathlib.Core.Logic.{⊎-elim}
 use Prim.Native.Nat.{_-_, _≤_}
 use native.Mathlib.Nat.{le-antisymm}
 use lib.Dec.{eqb}
-use borrow.Author.Needs.{needs}
-use borrow.Author.Tests.{lt-ltb, le-ltb}
+use Rattle.machine.proofs.Rules.{_≡_, refl, ⊎-elim, needs, lt-ltb, le-ltb}
 use Rattle.machine.specs.Below.{allBelow}
 use Rattle.ranges.specs.Tests.{pastTest}
 use Rattle.ranges.proofs.Bounds.{bits-more}

@@ -1,8 +1,8 @@
 -- `gate_in_range` meets its contract: the two comparisons, read as signed. Assumes nothing.
 use mir.Facts.{toZ-ofZ}
 use borrow.Author.Needs.{needs}
-use Rattle.operations.proofs.Signed.{as-signed}
-use Rattle.ranges.proofs.GateWord.{too-low, too-high, between}
+use Rattle.machine.proofs.Signed.{as-signed}
+use Rattle.ranges.proofs.GateWord.{too-low, up-to}
 use Rattle.ranges.proofs.range.gate_in_range.Statement.{statement}
 use Rattle.ranges.proofs.range.gate_in_range.Tie as tie
 
@@ -11,22 +11,15 @@ returns c = too-low (c .before .args .k) (c .before .args .a) (rw (toZ-ofZ (c .b
 
 returns-2 : tie.Need-returns-2
 returns-2 c =
-    let a = c .before .before .args in
-    let e = toZ-ofZ (c .before .before .fits .a) in
-    too-high (a .k) (a .a) (rw (as-signed (a .k) (c .before .before .pre), e) at (c .if2 .taken))
-
-returns-3 : tie.Need-returns-3
-returns-3 c =
-    let a = c .before .before .args in
-    let e = toZ-ofZ (c .before .before .fits .a) in
-    between (a .k) (a .a) (rw e at (c .before .if1 .left)) (rw (as-signed (a .k) (c .before .before .pre), e) at (c .if2 .left))
+    let a = c .before .args in
+    let e = toZ-ofZ (c .before .fits .a) in
+    rw (as-signed (a .k) (c .before .pre), e) (up-to (a .k) (a .a) (rw e at (c .if1 .left)))
 
 pub gate-in-range-spec : {M : Type 1} → statement M
-gate-in-range-spec = tie.close
+gate-in-range-spec =
+    tie.close
     (tie.spec
     -- `a < -64`
     (λ c. search needs) returns
-    -- `a > top`
-    returns-2
     -- otherwise
-    returns-3)
+    returns-2)

@@ -1,9 +1,8 @@
 -- `greatest` meets its contract. The loop keeps that top is the greatest of the numbers passed; what is left of e falls.
 -- Assumes nothing.
-use mathlib.Core.Logic.{⊎-elim}
 use Prim.Native.Nat.{_-_, _≤_}
 use native.Mathlib.Nat.{le-antisymm}
-use borrow.Author.Needs.{needs}
+use Rattle.machine.proofs.Rules.{⊎-elim, needs}
 use Rattle.ranges.specs.Tests.{Greatest}
 use Rattle.ranges.proofs.Bounds.{of-none, larger, no-larger}
 use Rattle.ranges.proofs.range.greatest.Statement.{statement}

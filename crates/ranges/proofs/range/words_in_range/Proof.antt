@@ -1,20 +1,23 @@
 -- `words_in_range` meets its contract: the greatest word against the greatest of b bits. Assumes nothing.
-use mathlib.Core.Path.{sym}
-use Rattle.ranges.proofs.Bounds.{words-out, words-in}
-use borrow.Author.Needs.{needs}
+use Rattle.machine.proofs.Rules.{sym, arith}
+use Rattle.machine.proofs.Ranges.{Limits, limits-of}
+use Rattle.fresh.proofs.Accepted.{words-64}
+use Rattle.ranges.proofs.Bounds.{words-decide}
 use Rattle.ranges.proofs.range.words_in_range.Statement.{statement}
 use Rattle.ranges.proofs.range.words_in_range.Tie as tie
 
-returns : tie.Need-returns
-returns c = sym (words-out (c .before .before .before .args .b) (c .before .before .mask .ensures) (c .before .greatest .ensures) (c .if1 .taken))
-
-returns-2 : tie.Need-returns-2
-returns-2 c = sym (words-in (c .before .before .before .args .b) (c .before .before .mask .ensures) (c .before .greatest .ensures) (c .if1 .left))
+-- the setup's limits
+limits : (c : tie.Start) → Limits (c .args .setup)
+limits c = limits-of (c .args .setup) (c .pre)
 
 pub words-in-range-spec : {M : Type 1} → statement M
-words-in-range-spec = tie.close
+words-in-range-spec =
+    tie.close
     (tie.spec
-    -- `greatest(words, count) > full`
-    (λ c κs. search needs) (λ c κs. search needs) returns
-    -- otherwise
-    returns-2)
+    -- the greatest word of b bits
+    (λ c κs. limits c .b8)
+    -- the words in use
+    (λ c. omega (arith, words-64 (limits (c .before .before)))) (λ c κs. words-64 (limits (c .before .before)))
+    (λ c.
+    let filled = c .before .before in
+    sym (words-decide (filled .before .args .setup) (filled .mask .ensures) (c .greatest .ensures))))

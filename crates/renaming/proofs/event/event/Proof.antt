@@ -1,10 +1,8 @@
 -- `event` meets its contract: a list of one event, and its entry holds the answer. Assumes nothing.
-use mathlib.Core.Path.{sym, _∙_}
-use borrow.Author.Tests.{not-true, not-false}
 use lib.ListN.{replicate}
+use Rattle.machine.proofs.Rules.{_∙_, sym, needs, not-true, not-false}
 use Rattle.machine.specs.Event.{event}
 use Rattle.renaming.proofs.OneEvent.{one-event}
-use borrow.Author.Needs.{needs}
 use Rattle.renaming.proofs.event.event.Statement.{statement}
 use Rattle.renaming.proofs.event.event.Tie as tie
 
@@ -13,7 +11,8 @@ unfolding event
 returns c = rw (sym (c .before .in-range .ensures) ∙ not-true _ (c .if1 .taken))
 
 run-checked-requires : tie.Need-run-checked-requires
-run-checked-requires c κs = (sym (c .before .before .before .in-range .ensures) ∙ not-false _ (c .before .before .if1 .left), search needs)
+run-checked-requires c κs =
+    (sym (c .before .before .before .in-range .ensures) ∙ not-false _ (c .before .before .if1 .left), search needs)
 
 returns-2 : tie.Need-returns-2
 returns-2 c = one-event _ _ _ (replicate 4 0) (c .before .run-checked .ensures .0) (c .before .run-checked .ensures .1)
@@ -22,7 +21,7 @@ pub event-spec : {M : Type 1} → statement M
 event-spec =
     tie.close
     (tie.spec
-    -- `return Done {`
+    -- a broken state
     (λ c κs. search needs) returns
-    -- otherwise
+    -- the list of one event
     (λ c. search needs) (λ c. search needs) run-checked-requires (λ c. search needs) returns-2)

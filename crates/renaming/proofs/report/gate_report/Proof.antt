@@ -1,15 +1,12 @@
 -- `gate_report` meets its contract: the gate word of a state in range, and its negation, are at most 64. Assumes nothing.
-use mathlib.Core.Path.{_≡_, sym, _∙_}
-use mathlib.Core.Bool.{true}
-use borrow.Author.Tests.{not-true, not-false}
 use mir.Facts.{toZ-ofZ}
 use mir.Syntax.{w8}
+use Rattle.machine.proofs.Rules.{_≡_, _∙_, sym, true, needs, not-true, not-false}
 use Rattle.machine.specs.Range.{inRange}
 use Rattle.machine.specs.Reports.{gateReport}
-use Rattle.machine.specs.State.{namesOf}
+use Rattle.machine.specs.Setup.{names}
 use Rattle.machine.proofs.Ranges.{ranges-of}
 use Rattle.renaming.proofs.Signs.{neg-fits, gate-64}
-use borrow.Author.Needs.{needs}
 use Rattle.renaming.proofs.report.gate_report.Statement.{statement}
 use Rattle.renaming.proofs.report.gate_report.Tie as tie
 
@@ -21,23 +18,24 @@ negated-requires : tie.Need-negated-requires
 negated-requires c κs =
     let s = c .before .before .before .args .state in
     let k = ranges-of s (sym (c .before .before .in-range .ensures) ∙ not-false _ (c .before .if1 .left)) in
-    rw (toZ-ofZ {w = w8} {z = s .gate} (search needs)) (gate-64 (namesOf s) (s .gate) (k .gate) (k .limits .k64))
+    rw (toZ-ofZ {w = w8} {z = s .gate} (search needs)) (gate-64 (names (s .setup)) (s .gate) (k .gate) (k .limits .k64))
 
 returns-2 : tie.Need-returns-2
 unfolding gateReport
 returns-2 c =
     let s = c .before .before .before .before .before .before .before .args .state in
     let z = toZ-ofZ {w = w8} {z = s .gate} (search needs) in
-    let e : inRange s ≡ true = sym (c .before .before .before .before .before .before .in-range .ensures) ∙ not-false _ (c .before .before .before .before .before .if1 .left) in
+    let past = c .before .before .before .before .before in
+    let e : inRange s ≡ true = sym (past .before .in-range .ensures) ∙ not-false _ (past .if1 .left) in
     let k = ranges-of s e in
-    let n = toZ-ofZ (neg-fits (s .gate) (gate-64 (namesOf s) (s .gate) (k .gate) (k .limits .k64))) in
+    let n = toZ-ofZ (neg-fits (s .gate) (gate-64 (names (s .setup)) (s .gate) (k .gate) (k .limits .k64))) in
     rw (e, c .before .positive-part .ensures, c .positive-part2 .ensures, z, c .before .before .before .negated .ensures, z, n)
 
 pub gate-report-spec : {M : Type 1} → statement M
 gate-report-spec =
     tie.close
     (tie.spec
-    -- `return Report {`
+    -- a broken state
     (λ c κs. search needs) returns
-    -- otherwise
+    -- the two figures
     negated-requires (λ c κs. search needs) (λ c κs. search needs) returns-2)

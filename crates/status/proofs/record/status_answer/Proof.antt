@@ -1,7 +1,5 @@
 -- `status_answer` meets its contract: each return rewrites with the tests that led there. Assumes nothing.
-use mathlib.Core.Path.{sym, _∙_}
-use borrow.Author.Needs.{needs}
-use borrow.Author.Tests.{not-true, not-false, lt-leb, le-leb}
+use Rattle.machine.proofs.Rules.{_∙_, sym, needs, not-true, le-leb, not-false, lt-leb}
 use Rattle.machine.specs.Reports.{statusAnswer}
 use Rattle.status.proofs.record.status_answer.Statement.{statement}
 use Rattle.status.proofs.record.status_answer.Tie as tie
@@ -21,7 +19,8 @@ returns-3 c = λ records long.
     rw (sym (c .before .before .before .in-range .ensures) ∙ not-false _ (c .before .before .if1 .left), long, le-leb _ _ (c .if2 .left))
 
 pub status-answer-spec : {M : Type 1} → statement M
-status-answer-spec = tie.close
+status-answer-spec =
+    tie.close
     (tie.spec
     -- `!range::in_range(state)`
     (λ c κs. search needs) returns

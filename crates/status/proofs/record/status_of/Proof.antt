@@ -1,9 +1,10 @@
--- `status_of` meets its contract: the place is below 64, and the record has the process's three numbers. Assumes nothing.
+-- `status_of` meets its contract: the record has the process's three numbers. Assumes nothing.
 use borrow.Author.Needs.{needs}
 use Rattle.status.proofs.record.status_of.Statement.{statement}
 use Rattle.status.proofs.record.status_of.Tie as tie
 
+returns : tie.Need-returns
+returns c = search needs
+
 pub status-of-spec : {M : Type 1} → statement M
-status-of-spec = tie.close
-    (tie.spec
-    (λ c. search needs) (λ c. search needs) (λ c. search needs))
+status-of-spec = tie.close (tie.spec returns)

@@ -6,19 +6,19 @@ use Rattle.text.proofs.file.run_file.Tie as tie
 
 returns : tie.Need-returns
 returns c =
-    let s = c .before .before .before .before .before .before .before .before in
+    let events = c .before .before .before .before in
+    let setup = events .before in
+    let s = setup .before .before .before in
     let f = s .args .file .now in
     let j = s .args .journal .now in
-    rw (
-      c .before .before .run .ensures .1,
-      c .before .before .before .before .before .read-setup .ensures,
-      c .before .before .before .before .read-events .ensures .0,
-    )
+    rw (c .before .before .run .ensures .1, setup .read-setup .ensures, events .read-events .ensures .0)
     (file-journal f j (s .pre .0) (s .pre .1), file-journal-size f j (s .pre .0) (s .pre .1))
 
 pub run-file-spec : {M : Type 1} → statement M
 run-file-spec =
     tie.close
     (tie.spec
-    (λ c κs. search needs) (λ c κs. search needs) (λ c κs. search needs) (λ c. search needs) (λ c. search needs)
-    returns)
+    -- the setup and the events
+    (λ c κs. search needs) (λ c κs. search needs)
+    -- the run, and its journal's size
+    (λ c κs. search needs) (λ c. search needs) (λ c. search needs) returns)

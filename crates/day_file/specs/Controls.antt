@@ -1,0 +1,44 @@
+-- What the layout's definitions read, on files written out; `read` in proofs/Controls.antt computes each.
+use mathlib.Core.Path.{_≡_}
+use mathlib.Core.List.{List, [], _∷_, _++_}
+use Prim.Native.Nat.{ℕ}
+use lib.ListN.{length}
+use Rattle.machine.specs.Runs.{ask, turn, finish}
+use Rattle.machine.specs.Setup.{plain}
+use Rattle.machine.specs.State.{done, fresh, blank}
+use Rattle.day_file.specs.Layout.{fileAnswer, readSetup, readEvents}
+
+-- the contents, with the size of body 2, and body 1
+abbrev pub contents : ℕ → ℕ → ℕ → ℕ → ℕ → List ℕ
+contents size n l g b =
+    84 ∷ 85 ∷ 82 ∷ 78 ∷ 2
+    ∷ 1 ∷ 23 ∷ 0 ∷ 0 ∷ 0 ∷ 4 ∷ 0 ∷ 0 ∷ 0
+    ∷ 2 ∷ 27 ∷ 0 ∷ 0 ∷ 0 ∷ size ∷ 0 ∷ 0 ∷ 0
+    ∷ n ∷ l ∷ g ∷ b ∷ []
+
+-- the events of P11
+abbrev pub p11-body : List ℕ
+p11-body = ask 0 ++ turn 0 ++ turn 0 ++ ask 1 ++ turn 1 ++ turn 1 ++ finish 0 ++ turn 0 ++ turn 0 ++ turn 1 ++ turn 1
+
+-- a file of 49 bytes
+abbrev pub p11-file : List ℕ
+p11-file = contents 22 2 1 1 1 ++ p11-body
+
+pub record Read : Type 0 where
+  pub p11 : (length p11-file ≡ 49) × (readSetup p11-file ≡ done 0 (fresh (plain 2 1 1 1))) × (readEvents p11-file ≡ p11-body)
+  -- a file of 27 bytes has no events
+  pub shortest : (readSetup (contents 0 64 16 2 2) ≡ done 0 (fresh (plain 64 16 2 2))) × (readEvents (contents 0 64 16 2 2) ≡ [])
+  -- a refused file: its number and the blank state, and an empty part
+  pub cut : (readSetup (84 ∷ 85 ∷ 82 ∷ 78 ∷ 2 ∷ []) ≡ done 10 blank) × (readEvents (84 ∷ 85 ∷ 82 ∷ 78 ∷ 2 ∷ []) ≡ [])
+  pub odd : readSetup (contents 1 2 1 1 1 ++ 0 ∷ []) ≡ done 11 blank
+  pub longer : (readSetup (contents 2 2 1 1 1 ++ ask 0 ++ ask 1) ≡ done 11 blank) × (readEvents (contents 2 2 1 1 1 ++ ask 0 ++ ask 1) ≡ [])
+  pub ends-later : fileAnswer (contents 4 2 1 1 1 ++ ask 0) ≡ 11
+  -- 10, 11, then 1 to 5: entries are looked at before the setup
+  pub setup-last : fileAnswer (contents 1 65 3 9 9) ≡ 11
+  pub setups :
+      (fileAnswer (contents 0 65 16 2 2) ≡ 1)
+      × (fileAnswer (contents 0 64 3 2 2) ≡ 2)
+      × (fileAnswer (contents 0 64 16 9 2) ≡ 3)
+      × (fileAnswer (contents 0 64 16 2 9) ≡ 4)
+      × (fileAnswer (contents 0 64 16 2 3) ≡ 5)
+  pub refused-setup : (readSetup (contents 2 64 16 2 3 ++ ask 0) ≡ done 5 blank) × (readEvents (contents 2 64 16 2 3 ++ ask 0) ≡ [])

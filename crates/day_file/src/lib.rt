@@ -1,0 +1,3 @@
+// The day file: its layout, and the reader. A format, so it keeps document 01's word.
+mod layout;
+pub mod reader;

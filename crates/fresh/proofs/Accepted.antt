@@ -1,0 +1,18 @@
+-- A setup answered 0 has its numbers within the machine's limits, and at most 16 leaves and 64 segment words. Assumes nothing.
+use mathlib.Core.Path.{_≡_, sym, _∙_}
+use Prim.Native.Nat.{ℕ, _*_, _≤_}
+use Rattle.machine.specs.Setup.{setupAnswer}
+use Rattle.machine.specs.declared.Setup.{Setup}
+use Rattle.machine.proofs.Facts.Leaves.{leaves-high}
+use Rattle.machine.proofs.Places.{segments-64}
+use Rattle.machine.proofs.Ranges.{Limits, limits-of}
+
+pub accepted : {c : Setup} {a : ℕ} → a ≡ setupAnswer c → a ≡ 0 → Limits c
+accepted {c} e z = limits-of c (sym e ∙ z)
+
+module _ {c : Setup} (k : Limits c) where
+  pub leaves-16 : c .leaves ≤ 16
+  leaves-16 = leaves-high (c .leaves) (k .leaves)
+
+  pub words-64 : c .leaves * c .segments ≤ 64
+  words-64 = segments-64 c (k .b1) (k .k64)

@@ -1,0 +1,65 @@
+-- What a call answers: 0, or the number of a refusal (document 01, the table of numbers); above each, document 01's word.
+use Prim.Native.Nat.{ℕ}
+
+abbrev pub accepted : ℕ
+accepted = 0
+
+-- handsets
+abbrev pub processes : ℕ
+processes = 1
+
+-- leaves
+abbrev pub leaves : ℕ
+leaves = 2
+
+-- rows
+abbrev pub segments : ℕ
+segments = 3
+
+-- bits
+abbrev pub bits : ℕ
+bits = 4
+
+-- pads
+abbrev pub names : ℕ
+names = 5
+
+-- stranger
+abbrev pub stranger : ℕ
+stranger = 6
+
+-- busy
+abbrev pub busy : ℕ
+busy = 7
+
+-- not moving
+abbrev pub notMoving : ℕ
+notMoving = 8
+
+-- no pad held
+abbrev pub noNameHeld : ℕ
+noNameHeld = 9
+
+-- no day file
+abbrev pub noDayFile : ℕ
+noDayFile = 10
+
+-- contents
+abbrev pub contents : ℕ
+contents = 11
+
+-- kind
+abbrev pub kind : ℕ
+kind = 12
+
+-- short
+abbrev pub short : ℕ
+short = 13
+
+-- odd
+abbrev pub odd : ℕ
+odd = 14
+
+-- broken state
+abbrev pub brokenState : ℕ
+brokenState = 15

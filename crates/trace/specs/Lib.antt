@@ -1,3 +1,0 @@
--- What a trace file is, and what its reader gives; Controls has files written out.
-pub mod Layout
-pub mod Controls
