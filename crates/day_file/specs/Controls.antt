@@ -3,7 +3,7 @@ use mathlib.Core.Path.{_≡_}
 use mathlib.Core.List.{List, [], _∷_, _++_}
 use Prim.Native.Nat.{ℕ}
 use lib.ListN.{length}
-use Rattle.machine.specs.Runs.{ask, turn, finish}
+use Rattle.machine.specs.Runs.{request, step, release}
 use Rattle.machine.specs.Setup.{plain}
 use Rattle.machine.specs.State.{done, fresh, blank}
 use Rattle.day_file.specs.Layout.{fileAnswer, readSetup, readEvents}
@@ -18,7 +18,7 @@ contents size n l g b =
 
 -- the events of P11
 abbrev pub p11-body : List ℕ
-p11-body = ask 0 ++ turn 0 ++ turn 0 ++ ask 1 ++ turn 1 ++ turn 1 ++ finish 0 ++ turn 0 ++ turn 0 ++ turn 1 ++ turn 1
+p11-body = request 0 ++ step 0 ++ step 0 ++ request 1 ++ step 1 ++ step 1 ++ release 0 ++ step 0 ++ step 0 ++ step 1 ++ step 1
 
 -- a file of 49 bytes
 abbrev pub p11-file : List ℕ
@@ -31,8 +31,10 @@ pub record Read : Type 0 where
   -- a refused file: its number and the blank state, and an empty part
   pub cut : (readSetup (84 ∷ 85 ∷ 82 ∷ 78 ∷ 2 ∷ []) ≡ done 10 blank) × (readEvents (84 ∷ 85 ∷ 82 ∷ 78 ∷ 2 ∷ []) ≡ [])
   pub odd : readSetup (contents 1 2 1 1 1 ++ 0 ∷ []) ≡ done 11 blank
-  pub longer : (readSetup (contents 2 2 1 1 1 ++ ask 0 ++ ask 1) ≡ done 11 blank) × (readEvents (contents 2 2 1 1 1 ++ ask 0 ++ ask 1) ≡ [])
-  pub ends-later : fileAnswer (contents 4 2 1 1 1 ++ ask 0) ≡ 11
+  pub longer :
+      (readSetup (contents 2 2 1 1 1 ++ request 0 ++ request 1) ≡ done 11 blank)
+      × (readEvents (contents 2 2 1 1 1 ++ request 0 ++ request 1) ≡ [])
+  pub ends-later : fileAnswer (contents 4 2 1 1 1 ++ request 0) ≡ 11
   -- 10, 11, then 1 to 5: entries are looked at before the setup
   pub setup-last : fileAnswer (contents 1 65 3 9 9) ≡ 11
   pub setups :
@@ -41,4 +43,4 @@ pub record Read : Type 0 where
       × (fileAnswer (contents 0 64 16 9 2) ≡ 3)
       × (fileAnswer (contents 0 64 16 2 9) ≡ 4)
       × (fileAnswer (contents 0 64 16 2 3) ≡ 5)
-  pub refused-setup : (readSetup (contents 2 64 16 2 3 ++ ask 0) ≡ done 5 blank) × (readEvents (contents 2 64 16 2 3 ++ ask 0) ≡ [])
+  pub refused-setup : (readSetup (contents 2 64 16 2 3 ++ request 0) ≡ done 5 blank) × (readEvents (contents 2 64 16 2 3 ++ request 0) ≡ [])

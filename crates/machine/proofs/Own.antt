@@ -27,7 +27,7 @@ use Rattle.machine.proofs.Moves.{Move, requests, enters, awaits, claims
 use Rattle.machine.proofs.Valid.{Valid}
 
 pub data Own (gate : ℤ) (h : Process) : ℕ → Process → Type 0 where
-  asks : h .stage ≡ remainder → Own gate h request (withStage entry freshProcess)
+  begins : h .stage ≡ remainder → Own gate h request (withStage entry freshProcess)
   queues : h .stage ≡ entry → above0 gate ≡ false → Own gate h step (withStage waiting h)
   passes : entry ≤ h .stage → h .stage ≤ waiting → Own gate h step (withStage getname h)
   waits : h .stage ≡ waiting → Own gate h step h
@@ -37,7 +37,7 @@ pub data Own (gate : ℤ) (h : Process) : ℕ → Process → Type 0 where
   climbs-left : h .stage ≡ putname → h .name ≡ none → 1 < h .node → h .node % 2 ≡ 0 → Own gate h step (withNode (h .node / 2) h)
   climbs-right : h .stage ≡ putname → h .name ≡ none → 1 < h .node → h .node % 2 ≢ 0 → Own gate h step (withNode (h .node / 2) h)
   leaves : h .stage ≡ putname → h .name ≡ none → h .node ≤ 1 → Own gate h step (withStage remainder (withSegment 0 h))
-  strays : h .stage ≡ exhausted → Own gate h step h
+  remains : h .stage ≡ exhausted → Own gate h step h
 
 pub record Became (s t : State) (p kind : ℕ) : Type 0 where
   pub now : Process
@@ -106,10 +106,10 @@ module _ {s : State} {p : ℕ} (v : Valid s) (known : p < s .setup .processes) w
       (λ n. record { now = withName none h; by = gives e (eqb-false _ _ n); is = own-stored _ })
 
   pub move-became : {kind : ℕ} {t : State} → Move s p kind t → Became s t p kind
-  move-became (requests e) = record { now = withStage entry freshProcess; by = asks e; is = own-stored _ }
+  move-became (requests e) = record { now = withStage entry freshProcess; by = begins e; is = own-stored _ }
   move-became (enters e) = enter-became e
   move-became (awaits e) = await-became e
   move-became (claims e) = record { now = claimed (getname-is .0) h; by = steps e (getname-is .0); is = getname-is .1 }
   move-became (returns e) = return-became e
-  move-became (stays e) = record { now = h; by = strays e; is = refl }
+  move-became (stays e) = record { now = h; by = remains e; is = refl }
   move-became (releases e) = record { now = withStage putname h; by = ends e; is = own-stored _ }

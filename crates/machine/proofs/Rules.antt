@@ -5,6 +5,7 @@ pub use mathlib.Core.Bool.{_||_, true, false, true≢false, false≢true, Bool, 
 pub use mathlib.Core.Logic.{_⊎_, ⊎-elim, _≢_, inl, inr}
 pub use native.Mathlib.Omega.{arith}
 pub use borrow.Author.Needs.{needs}
-pub use borrow.Author.Tests.{leb-true, ltb-true, le-leb, lt-ltb, not-true, not-false, ltb-false, le-ltb, eq-eqb, ne-eqb, lt-leb, eqb-true, leb-false, eqb-false}
+pub use borrow.Author.Tests.{leb-true, ltb-true, eqb-true, leb-false, ltb-false, eqb-false, not-true, not-false}
+pub use borrow.Author.Tests.{le-leb, lt-leb, lt-ltb, le-ltb, eq-eqb, ne-eqb}
 
 pub ruleset tests = (needs, lt-leb, le-leb, lt-ltb, le-ltb, eq-eqb, ne-eqb)

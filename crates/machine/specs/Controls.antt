@@ -14,7 +14,7 @@ use Rattle.machine.specs.Operations.{setFirstZero}
 use Rattle.machine.specs.Range.{inRange}
 use Rattle.machine.specs.Reports.{gateReport, statusAnswer, statusRecords}
 use Rattle.machine.specs.Setup.{plain}
-use Rattle.machine.specs.Runs.{ask, turn, finish, line}
+use Rattle.machine.specs.Runs.{request, step, release, line}
 use Rattle.machine.specs.State.{done, none, freshProcess, withStage, withNode, withSegment, withName, withSteps, processAt, counterAt, withGate, withQueue, withCounter, withWord, withProcess, update, fresh, blank, setup}
 use Rattle.machine.specs.declared.Process.{Process}
 use Rattle.machine.specs.declared.State.{State}
@@ -31,16 +31,16 @@ single = fresh (plain 3 1 1 1)
 abbrev pub round : List Event
 round =
     eventsOf
-    (ask 0 ++ turn 0 ++ turn 0 ++ turn 0
-    ++ ask 1 ++ turn 1 ++ turn 1 ++ turn 1
-    ++ finish 1 ++ turn 1 ++ turn 1 ++ turn 1
-    ++ finish 0 ++ turn 0 ++ turn 0 ++ turn 0)
+    (request 0 ++ step 0 ++ step 0 ++ step 0
+    ++ request 1 ++ step 1 ++ step 1 ++ step 1
+    ++ release 1 ++ step 1 ++ step 1 ++ step 1
+    ++ release 0 ++ step 0 ++ step 0 ++ step 0)
 
 -- process 0 wins; 1 and then 2 join the queue; 0 returns
 abbrev pub queueing : List Event
 queueing =
     eventsOf
-    (ask 0 ++ turn 0 ++ turn 0 ++ ask 1 ++ turn 1 ++ ask 2 ++ turn 2 ++ finish 0 ++ turn 0 ++ turn 0 ++ turn 2 ++ turn 1)
+    (request 0 ++ step 0 ++ step 0 ++ request 1 ++ step 1 ++ request 2 ++ step 2 ++ release 0 ++ step 0 ++ step 0 ++ step 2 ++ step 1)
 
 -- process 0 at the last of two full segments
 abbrev pub full : State
@@ -129,7 +129,7 @@ pub record Controls : Type 0 where
   pub at-the-ends : map inRange whole ≡ replicate 10 true
   -- an event: 15 for the state, 12, 6, then 7, 8 or 9
   pub state-first : event blank 3 9 ≡ done 15 blank
-  pub refusals : journal pair (eventsOf ((3 ∷ 2 ∷ []) ++ turn 2 ++ turn 0 ++ finish 0 ++ ask 0 ++ ask 0))
+  pub refusals : journal pair (eventsOf ((3 ∷ 2 ∷ []) ++ step 2 ++ step 0 ++ release 0 ++ request 0 ++ request 0))
       ≡ line 12 255 255 255 ++ line 6 255 255 255 ++ line 8 0 none 0 ++ line 9 0 none 0 ++ line 0 1 none 0 ++ line 7 1 none 0
   -- then 15 for the turn: the state stays
   pub turns : map (λ (s : State). event s 1 0) edges ≡ map (done 15) edges
@@ -137,7 +137,7 @@ pub record Controls : Type 0 where
   pub right-back : counterAt (after pair (take 12 round)) 1 ≡ 0
   pub round-trip : after pair round ≡ update 0 (withSteps 2) (update 1 (withSteps 2) pair)
   -- a second request counts from 0 again
-  pub again : processAt (after pair (round ++ eventsOf (ask 0))) 0 ≡ withStage 1 freshProcess
+  pub again : processAt (after pair (round ++ eventsOf (request 0))) 0 ≡ withStage 1 freshProcess
   -- the queue is served from its head: 2 stays in it and 1 goes on
   pub queue : journal single queueing
       ≡ line 0 1 none 0 ++ line 0 3 none 0 ++ line 0 4 0 1
@@ -146,16 +146,16 @@ pub record Controls : Type 0 where
       ++ line 0 5 0 1 ++ line 0 5 none 1 ++ line 0 0 none 1
       ++ line 0 2 none 0 ++ line 0 3 none 0
   -- admitted at the start and after each of those events: 1 still waits, out of the queue, when 0 has left
-  pub let-in : tabulate 13 (λ n. admitted (after single (take n queueing))) ≡ 0 ∷ 0 ∷ replicate 11 1
+  pub admitted-counts : tabulate 13 (λ n. admitted (after single (take n queueing))) ≡ 0 ∷ 0 ∷ replicate 11 1
   -- at the last segment with no bit clear: stage 6, the segment unchanged; and from there no change
-  pub strays : event full 1 0 ≡ done 0 (update 0 (λ h. withStage 6 (withSteps 1 h)) full)
-  pub strayed : event (event full 1 0 .state) 1 0 ≡ done 0 (event full 1 0 .state)
+  pub none-left : event full 1 0 ≡ done 0 (update 0 (λ h. withStage 6 (withSteps 1 h)) full)
+  pub stays-exhausted : event (event full 1 0 .state) 1 0 ≡ done 0 (event full 1 0 .state)
   -- a list: 14, 13, 15; a refused list writes nothing, and bytes beyond the entries are untouched
   pub odd : run blank (0 ∷ []) [] ≡ done 14 blank
-  pub short : run blank (ask 0) (9 ∷ 9 ∷ 9 ∷ []) ≡ done 13 blank
-  pub bad-state : run blank (ask 0) (9 ∷ 9 ∷ 9 ∷ 9 ∷ []) ≡ done 15 blank
-  pub nothing-written : runJournal blank (ask 0) (9 ∷ 9 ∷ 9 ∷ 9 ∷ []) ≡ 9 ∷ 9 ∷ 9 ∷ 9 ∷ []
-  pub beyond : runJournal pair (ask 0) (9 ∷ 9 ∷ 9 ∷ 9 ∷ 9 ∷ []) ≡ line 0 1 none 0 ++ 9 ∷ []
+  pub short : run blank (request 0) (9 ∷ 9 ∷ 9 ∷ []) ≡ done 13 blank
+  pub bad-state : run blank (request 0) (9 ∷ 9 ∷ 9 ∷ 9 ∷ []) ≡ done 15 blank
+  pub nothing-written : runJournal blank (request 0) (9 ∷ 9 ∷ 9 ∷ 9 ∷ []) ≡ 9 ∷ 9 ∷ 9 ∷ 9 ∷ []
+  pub beyond : runJournal pair (request 0) (9 ∷ 9 ∷ 9 ∷ 9 ∷ 9 ∷ []) ≡ line 0 1 none 0 ++ 9 ∷ []
   -- the gate report above, at and below 0, and refused
   pub report : map gateReport (pair ∷ withGate (pos 0) pair ∷ withGate (negsuc 4) pair ∷ blank ∷ [])
       ≡ record { answer = 0; free = 2; queued = 0 }

@@ -1,17 +1,17 @@
 -- What runs are written with: the bytes of events, and the lines of a journal.
 use mathlib.Core.List.{List, [], _∷_}
 use Prim.Native.Nat.{ℕ}
-use Rattle.machine.specs.Kind.{request, step, release}
+use Rattle.machine.specs.Kind as kind
 
--- the bytes of an ask, a turn and a finish
-abbrev pub ask : ℕ → List ℕ
-ask p = request ∷ p ∷ []
+-- the bytes of a request (ask), a step (turn) and a release (finish)
+abbrev pub request : ℕ → List ℕ
+request p = kind.request ∷ p ∷ []
 
-abbrev pub turn : ℕ → List ℕ
-turn p = step ∷ p ∷ []
+abbrev pub step : ℕ → List ℕ
+step p = kind.step ∷ p ∷ []
 
-abbrev pub finish : ℕ → List ℕ
-finish p = release ∷ p ∷ []
+abbrev pub release : ℕ → List ℕ
+release p = kind.release ∷ p ∷ []
 
 -- a journal entry: answer, stage, name, steps
 abbrev pub line : ℕ → ℕ → ℕ → ℕ → List ℕ

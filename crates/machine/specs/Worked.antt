@@ -5,7 +5,7 @@ use Prim.Native.Nat.{ℕ}
 use lib.ListN.{take}
 use Rattle.machine.specs.Lists.{Event, eventsOf, after, journal}
 use Rattle.machine.specs.Operations.{setFirstZero, boundedDecrement}
-use Rattle.machine.specs.Runs.{ask, turn, finish, line}
+use Rattle.machine.specs.Runs.{request, step, release, line}
 use Rattle.machine.specs.Setup.{plain, names}
 use Rattle.machine.specs.State.{done, none, processAt, fresh, blank, setup}
 use Rattle.machine.specs.declared.Applied.{Applied}
@@ -15,14 +15,14 @@ abbrev pub applied : ℕ → ℕ → Applied
 applied a w = record { answer = a; word = w }
 
 abbrev pub p9-events : List Event
-p9-events = eventsOf (ask 0 ++ turn 0 ++ turn 0 ++ turn 0 ++ ask 1 ++ turn 1 ++ turn 1 ++ turn 1)
+p9-events = eventsOf (request 0 ++ step 0 ++ step 0 ++ step 0 ++ request 1 ++ step 1 ++ step 1 ++ step 1)
 
 abbrev pub p10-events : List Event
-p10-events = eventsOf (ask 0 ++ turn 0 ++ turn 0 ++ ask 1 ++ turn 1 ++ turn 1 ++ turn 1)
+p10-events = eventsOf (request 0 ++ step 0 ++ step 0 ++ request 1 ++ step 1 ++ step 1 ++ step 1)
 
 abbrev pub p11-events : List Event
 p11-events =
-    eventsOf (ask 0 ++ turn 0 ++ turn 0 ++ ask 1 ++ turn 1 ++ turn 1 ++ finish 0 ++ turn 0 ++ turn 0 ++ turn 1 ++ turn 1)
+    eventsOf (request 0 ++ step 0 ++ step 0 ++ request 1 ++ step 1 ++ step 1 ++ release 0 ++ step 0 ++ step 0 ++ step 1 ++ step 1)
 
 pub record Worked : Type 0 where
   -- first clear, b = 3: word 5 answers 1 and becomes 7; word 7 answers 3 and stays

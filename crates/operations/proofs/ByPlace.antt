@@ -130,23 +130,18 @@ module _ (s : State) (z : Sized s) (k : Ranges s) (p : ℕ) (kp : p < s .setup .
       by-row (λ n f. f s p ≡ doneAt (getD (stagePlaces c h) n (Own h 15)) s p) stages (refused 15)
       (own-kept 8, (enter-at, (await-at, (getname-at, (own-kept 8, (putname-at, (stay-at, λ _. own-kept 15)))))))
 
+  own-if : (t : Bool) (x : Process) (a : ℕ)
+      → cond t (done 0 (withProcess p x s)) (done a s) ≡ doneAt (cond t (Own x 0) (Own h a)) s p
+  own-if true x a = unfold doneAt in refl
+  own-if false x a = own-kept a
+
   request-at : request s p ≡ doneAt (cond (eqb (h .stage) remainder) (Own (withStage entry freshProcess) 0) (Own h 7)) s p
-  unfolding request doneAt
-  request-at = go (eqb (h .stage) remainder) refl
-    where
-      go : (t : Bool) → eqb (h .stage) remainder ≡ t
-          → request s p ≡ doneAt (cond (eqb (h .stage) remainder) (Own (withStage entry freshProcess) 0) (Own h 7)) s p
-      go true e = simp e
-      go false e = simp e (own-kept 7)
+  unfolding request
+  request-at = own-if (eqb (h .stage) remainder) (withStage entry freshProcess) 7
 
   release-at : release s p ≡ doneAt (cond (eqb (h .stage) working) (Own (withStage putname h) 0) (Own h 9)) s p
-  unfolding release doneAt
-  release-at = go (eqb (h .stage) working) refl
-    where
-      go : (t : Bool) → eqb (h .stage) working ≡ t
-          → release s p ≡ doneAt (cond (eqb (h .stage) working) (Own (withStage putname h) 0) (Own h 9)) s p
-      go true e = simp e
-      go false e = simp e (own-kept 9)
+  unfolding release
+  release-at = own-if (eqb (h .stage) working) (withStage putname h) 9
 
   -- by the kind
   kind-at : (kind : ℕ) → getD kinds kind (refused 12) s p ≡ doneAt (placeOf kind c h) s p

@@ -24,7 +24,7 @@ use Rattle.machine.proofs.Facts.Tests.{and-left, and-right}
 use Rattle.machine.proofs.Laws.OnePlace.{others-unchanged}
 use Rattle.machine.proofs.Laws.Room.Getname.{getname-room}
 use Rattle.machine.proofs.Moves.{Outcome, refuses, accepts, event-outcome}
-use Rattle.machine.proofs.Own.{Own, asks, queues, passes, waits, steps, ends, gives, climbs-left, climbs-right, leaves, strays}
+use Rattle.machine.proofs.Own.{Own, begins, queues, passes, waits, steps, ends, gives, climbs-left, climbs-right, leaves, remains}
 use Rattle.machine.proofs.Own.{getname-is, move-became}
 use Rattle.machine.proofs.Ranges.{in-range}
 use Rattle.renaming_claim.specs.History.{stepOf, requestOf, claimOf}
@@ -89,7 +89,7 @@ module _ {M : ℕ} {s : State} {p : ℕ} (m : Mover M s p) where
       where
         -- a claiming process is neither asking nor working
         kept : {kind : ℕ} {x : Process} → Own (s .gate) h kind x → kind ≢ step → x ≡ h
-        kept (asks i) n = absurd (omega arith)
+        kept (begins i) n = absurd (omega arith)
         kept (queues i shut) n = absurd (n refl)
         kept (passes low high) n = absurd (n refl)
         kept (waits i) n = refl
@@ -99,7 +99,7 @@ module _ {M : ℕ} {s : State} {p : ℕ} (m : Mover M s p) where
         kept (climbs-left i d l even) n = absurd (n refl)
         kept (climbs-right i d l odd) n = absurd (n refl)
         kept (leaves i d l) n = absurd (n refl)
-        kept (strays i) n = refl
+        kept (remains i) n = refl
 
         same : {kind : ℕ} {d : Done} → Outcome s kind p d → kind ≢ step → processAt (d .state) p ≡ h
         same (refuses a k) n = refl
@@ -125,7 +125,7 @@ module _ {M : ℕ} {s : State} {p : ℕ} (m : Mover M s p) where
       go false y e f = refl
 
   became-steps : {kind : ℕ} {x : Process} → Own (s .gate) h kind x → x .steps ≡ counted kind 0
-  became-steps (asks e) = refl
+  became-steps (begins e) = refl
   became-steps (queues e shut) = rw e
   became-steps (passes low high) = rw (ne-eqb (h .stage) getname (λ z. omega arith))
   became-steps (waits e) = rw e
@@ -135,7 +135,7 @@ module _ {M : ℕ} {s : State} {p : ℕ} (m : Mover M s p) where
   became-steps (climbs-left e n l even) = rw e
   became-steps (climbs-right e n l odd) = rw e
   became-steps (leaves e n l) = rw e
-  became-steps (strays e) = rw e
+  became-steps (remains e) = rw e
 
   outcome-steps : {kind : ℕ} {d : Done} → Outcome s kind p d → (kind ≡ step → h .stage ≡ getname → d .answer ≡ 0)
       → stepsIn (d .state) ≡ counted kind (d .answer)

@@ -70,7 +70,7 @@ module _ (c : Setup) (accepted : setupAnswer c ≡ 0) where
         admitted-k = omega (arith, admitted-few (t es) (sound es), names-are es);
         held-below = λ p k e. omega (arith, name-below (one es p k) e, names-are es);
         held-unlike = λ p q k j d e f. names-unlike (one es p k) e q (known es q j) d;
-        none-astray = λ p k. not-exhausted (one es p k);
+        none-exhausted = λ p k. not-exhausted (one es p k);
         held-low = λ m few p k e. omega (arith, name-low (low es p k m few) e);
         steps-counted = counted es;
         steps-least = λ p k e. omega (arith, least-steps (one es p k) e, height-is es);

@@ -36,7 +36,7 @@ module _ (c : Setup) (stateAfter : List Event → State) where
         → processAfter es q .stage ≡ working
         → processAfter es p .name ≢ processAfter es q .name
     -- No handset is astray.
-    pub none-astray : (p : ℕ) → p < c .processes → processAfter es p .stage ≢ exhausted
+    pub none-exhausted : (p : ℕ) → p < c .processes → processAfter es p .stage ≢ exhausted
     -- If at no moment in the list (its start, and directly after each event) were more than m let in, every held pad is below m.
     pub held-low : (m : ℕ) → ((i : ℕ) → i ≤ length es → admitted (stateAfter (take i es)) ≤ m)
         → (p : ℕ) → p < c .processes → processAfter es p .stage ≡ working → processAfter es p .name < m

@@ -33,7 +33,7 @@ module _ (c : Setup) (f f′ : List Event → State) (es : List Event) (e : f es
         held-unlike = λ p q k j d.
             across (λ s. processAt s p .stage ≡ working → processAt s q .stage ≡ working → processAt s p .name ≢ processAt s q .name)
             (a .held-unlike p q k j d);
-        none-astray = λ p k. across (λ s. processAt s p .stage ≢ exhausted) (a .none-astray p k);
+        none-exhausted = λ p k. across (λ s. processAt s p .stage ≢ exhausted) (a .none-exhausted p k);
         held-low = λ m few p k.
             across (λ s. processAt s p .stage ≡ working → processAt s p .name < m)
             (a .held-low m (λ i j. subst (λ (s : State). admitted s ≤ m) (sym (prefixes i)) (few i j)) p k);

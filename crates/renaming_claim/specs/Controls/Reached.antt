@@ -8,7 +8,7 @@ use lib.ListN.{take}
 use Rattle.machine.specs.Admitted.{admitted}
 use Rattle.machine.specs.Lists.{Event, eventsOf, journal}
 use Rattle.machine.specs.Reports.{statusOf}
-use Rattle.machine.specs.Runs.{ask, turn, finish, line}
+use Rattle.machine.specs.Runs.{request, step, release, line}
 use Rattle.machine.specs.Stage.{remainder, entry, waiting, getname, working, putname}
 use Rattle.machine.specs.Setup.{plain, height}
 use Rattle.machine.specs.State.{none, processAt, counterAt, fresh}
@@ -16,21 +16,21 @@ use Rattle.renaming_claim.specs.Claim.{afterList}
 
 -- one name for two processes: 0 wins it, 1 queues, 0 returns it, 1 goes on and wins it
 abbrev pub served : List Event
-served = eventsOf (ask 0 ++ turn 0 ++ turn 0 ++ ask 1 ++ turn 1 ++ finish 0 ++ turn 0 ++ turn 0 ++ turn 1 ++ turn 1)
+served = eventsOf (request 0 ++ step 0 ++ step 0 ++ request 1 ++ step 1 ++ release 0 ++ step 0 ++ step 0 ++ step 1 ++ step 1)
 
 -- two leaves of two segments of one bit: 0 and 1 both go left, and 1 finds the first segment full
 abbrev pub costly : List Event
-costly = eventsOf (ask 0 ++ turn 0 ++ turn 0 ++ turn 0 ++ ask 1 ++ turn 1 ++ turn 1 ++ turn 1 ++ turn 1)
+costly = eventsOf (request 0 ++ step 0 ++ step 0 ++ step 0 ++ request 1 ++ step 1 ++ step 1 ++ step 1 ++ step 1)
 
 -- the state drawn in docs/PROOF.md: five processes, two leaves of two segments of one bit
 abbrev pub drawn : List Event
 drawn =
     eventsOf
-    (ask 0 ++ turn 0 ++ turn 0 ++ turn 0
-    ++ ask 1 ++ turn 1 ++ turn 1 ++ turn 1
-    ++ ask 2 ++ turn 2 ++ turn 2
-    ++ ask 3 ++ turn 3
-    ++ ask 4 ++ turn 4)
+    (request 0 ++ step 0 ++ step 0 ++ step 0
+    ++ request 1 ++ step 1 ++ step 1 ++ step 1
+    ++ request 2 ++ step 2 ++ step 2
+    ++ request 3 ++ step 3
+    ++ request 4 ++ step 4)
 
 pub record Reached : Type 0 where
   -- 1 waits in the queue while 0 holds the only name; when 0 is back in its remainder section, 1 goes on and takes the name over

@@ -18,7 +18,7 @@ use Rattle.machine.specs.Getname.{claimed, descend, probe, getnameStep}
 use Rattle.machine.specs.Lists.{Event, eventsOf}
 use Rattle.machine.specs.Operations.{boundedDecrement}
 use Rattle.machine.specs.Putname.{giveBack, putnameStep}
-use Rattle.machine.specs.Runs.{ask, turn, finish}
+use Rattle.machine.specs.Runs.{request, step, release}
 use Rattle.machine.specs.Setup.{log2}
 use Rattle.machine.specs.Stage.{remainder, entry, working, putname, exhausted}
 use Rattle.machine.specs.Setup.{plain}
@@ -125,26 +125,26 @@ rightAtOne =
 
 -- a request and three steps: past the gate, and the win where there is one level
 abbrev pub wins : ℕ → List ℕ
-wins p = ask p ++ turn p ++ turn p ++ turn p
+wins p = request p ++ step p ++ step p ++ step p
 
 abbrev pub root-first : List Event
 root-first =
     eventsOf
-    (wins 0 ++ turn 0 ++ finish 0 ++ turn 0 ++ turn 0
-    ++ wins 1 ++ turn 1
-    ++ wins 2 ++ turn 2)
+    (wins 0 ++ step 0 ++ release 0 ++ step 0 ++ step 0
+    ++ wins 1 ++ step 1
+    ++ wins 2 ++ step 2)
 
 abbrev pub root-then-bit : List Event
-root-then-bit = eventsOf (wins 0 ++ finish 0 ++ turn 0 ++ wins 1)
+root-then-bit = eventsOf (wins 0 ++ release 0 ++ step 0 ++ wins 1)
 
 abbrev pub last-gap : List Event
 last-gap =
     eventsOf
-    (ask 0 ++ turn 0 ++ turn 0 ++ finish 0 ++ ask 1 ++ turn 1 ++ turn 1 ++ turn 0 ++ turn 0
-    ++ ask 0 ++ turn 0 ++ turn 1 ++ turn 0)
+    (request 0 ++ step 0 ++ step 0 ++ release 0 ++ request 1 ++ step 1 ++ step 1 ++ step 0 ++ step 0
+    ++ request 0 ++ step 0 ++ step 1 ++ step 0)
 
 abbrev pub gate-first : List Event
-gate-first = eventsOf (ask 0 ++ turn 0 ++ turn 0 ++ finish 0 ++ turn 0 ++ ask 1 ++ turn 1)
+gate-first = eventsOf (request 0 ++ step 0 ++ step 0 ++ release 0 ++ step 0 ++ request 1 ++ step 1)
 
 abbrev pub right-at-one : List Event
 right-at-one = eventsOf (wins 0 ++ wins 1)

@@ -14,6 +14,10 @@ leaves c = leaves-16 (limits-of (c .args .setup) (c .pre))
 byte : (c : tie.Start) → c .args .h .steps ≤ 255
 byte c = search needs
 
+-- past the other tests a name below k is in range
+name-low : tie.Need-returns-5
+name-low c = search (tests, rw (c .before .before .names-of .ensures) at (c .if5 .taken))
+
 -- past the other tests, whether the name is none decides
 name-decides : tie.Need-returns-6
 name-decides c =
@@ -46,6 +50,6 @@ process-in-range-spec =
     (λ c. search tests)
     -- `h.name < limits::names_of(setup)`
     (λ c κs. c .before .before .before .before .before .before .before .before .before .before .pre)
-    (λ c. search (tests, rw (c .before .before .names-of .ensures) at (c .if5 .taken)))
+    name-low
     -- otherwise
     name-decides)
