@@ -33,14 +33,18 @@ counterTest c v n = eqb v 0 || leb n (freshCounter c v)
 abbrev pub wordTest : Setup → List ℕ → ℕ → Bool
 wordTest c words r = ltb (getD words r 0) (2 ^ c .bits)
 
--- Stage 0 to 6; node 1 to 2L - 1; segment (row) 0 to g - 1; name (pad) 0 to k - 1, or 255 for none; steps (spent) 0 to 255.
+-- A name (pad), 0 to k - 1, or 255 for none.
+abbrev pub nameTest : ℕ → ℕ → Bool
+nameTest k m = ltb m k || eqb m none
+
+-- Stage 0 to 6; node 1 to 2L - 1; segment (row) 0 to g - 1; name; steps (spent) 0 to 255.
 abbrev pub processTests : Setup → Process → List Bool
 processTests c h =
     leb (h .stage) exhausted
     ∷ leb 1 (h .node)
     ∷ ltb (h .node) (2 * c .leaves)
     ∷ ltb (h .segment) (c .segments)
-    ∷ (ltb (h .name) (names c) || eqb (h .name) none)
+    ∷ nameTest (names c) (h .name)
     ∷ leb (h .steps) 255
     ∷ []
 

@@ -1,7 +1,6 @@
 // Whether each number of a state is in its range.
 use fresh::counter;
 use fresh::limits;
-use machine::NO_NAME;
 use machine::Process;
 use machine::Setup;
 use machine::State;
@@ -13,7 +12,7 @@ ghost use lib.Dec.{eqb};
 ghost use lib.ListN.{getD};
 ghost use Rattle.machine.specs.Below.{allBelow};
 ghost use Rattle.machine.specs.Check.{allOf};
-ghost use Rattle.machine.specs.Range.{gateInRange, placeTest, counterTest, wordTest, processTest, entryTests, inRange};
+ghost use Rattle.machine.specs.Range.{gateInRange, placeTest, counterTest, wordTest, nameTest, processTest, entryTests, inRange};
 ghost use Rattle.machine.specs.Setup.{setupAnswer};
 ghost use Rattle.ranges.specs.Tests.{Greatest, pastTest};
 
@@ -124,6 +123,13 @@ fn words_in_range(words: &[u8; 64], setup: Setup) -> bool
     greatest(words, setup.leaves * setup.segments) <= full
 }
 
+// A name below k, or none. One more than none is 0 in a byte, so that one comparison tells: no processor foresees who holds a name.
+fn is_name(k: u8, m: u8) -> bool
+    ensures { λ r. ⌜ r ≡ nameTest k m ⌝ }
+{
+    (m as u16 + 1) % 256 <= k as u16
+}
+
 // The numbers of one process. Its steps are a byte, so that they need no test.
 fn process_in_range(h: Process, setup: Setup) -> bool
     requires { ⌜ setupAnswer setup ≡ 0 ⌝ }
@@ -141,10 +147,7 @@ fn process_in_range(h: Process, setup: Setup) -> bool
     if h.segment >= setup.segments {
         return false;
     }
-    if h.name < limits::names_of(setup) {
-        return true;
-    }
-    h.name == NO_NAME
+    is_name(limits::names_of(setup), h.name)
 }
 
 // The setup's numbers, the gate word and its queue.

@@ -1,6 +1,6 @@
 -- `process_in_range` meets its contract: the tests one by one. Assumes nothing.
 use Prim.Native.Nat.{_≤_}
-use Rattle.machine.proofs.Rules.{and-true, arith, needs, lt-ltb, le-leb, le-ltb, tests}
+use Rattle.machine.proofs.Rules.{and-true, arith, needs, le-leb, lt-ltb, tests}
 use Rattle.machine.proofs.Ranges.{limits-of}
 use Rattle.fresh.proofs.Accepted.{leaves-16}
 use Rattle.ranges.proofs.range.process_in_range.Statement.{statement}
@@ -14,16 +14,10 @@ leaves c = leaves-16 (limits-of (c .args .setup) (c .pre))
 byte : (c : tie.Start) → c .args .h .steps ≤ 255
 byte c = search needs
 
--- past the other tests a name below k is in range
-name-low : tie.Need-returns-5
-name-low c = search (tests, rw (c .before .before .names-of .ensures) at (c .if5 .taken))
-
--- past the other tests, whether the name is none decides
-name-decides : tie.Need-returns-6
+-- past the other tests the name decides
+name-decides : tie.Need-returns-5
 name-decides c =
-    let past-name = c .before in
-    let named = past-name .before .before in
-    let past-segment = named .before in
+    let past-segment = c .before .before in
     let past-node = past-segment .before .before .before in
     let past-root = past-node .before .before .before in
     simp (
@@ -31,10 +25,10 @@ name-decides c =
       le-leb _ _ (past-root .if2 .left),
       lt-ltb _ _ (past-node .if3 .left),
       lt-ltb _ _ (past-segment .if4 .left),
-      le-ltb _ _ (rw (named .names-of .ensures) at (past-name .if5 .left)),
       le-leb _ 255 (byte (past-root .before .before .before .before)),
       and-true,
     )
+    (rw (c .before .names-of .ensures) at (c .is-name .ensures))
 
 pub process-in-range-spec : {M : Type 1} → statement M
 process-in-range-spec =
@@ -48,8 +42,5 @@ process-in-range-spec =
     (λ c. omega (arith, leaves (c .before .before .before .before .before))) (λ c. search tests)
     -- `h.segment >= setup.segments`
     (λ c. search tests)
-    -- `h.name < limits::names_of(setup)`
-    (λ c κs. c .before .before .before .before .before .before .before .before .before .before .pre)
-    name-low
-    -- otherwise
-    name-decides)
+    -- the name
+    (λ c κs. search needs) (λ c κs. search needs) name-decides)
