@@ -13,7 +13,8 @@ use Rattle.machine.proofs.Facts.Leaves.{height-is, depth-root, depth-le
 use Rattle.machine.proofs.Facts.Words.{first-zero-clear, first-zero-below, set-bit-same, set-bit-other, clr-bit-same, clr-bit-other}
 use Rattle.machine.proofs.Laws.Answers.{accepted-in-range, refused-unchanged, state-refused, kind-refused, stranger-refused}
 use Rattle.machine.proofs.Laws.Fresh.{fresh-in-range, blank-out-of-range}
-use Rattle.machine.proofs.Laws.OnePlace.{event-touches, others-unchanged, setup-unchanged, unused-process, unused-counter, unused-word, sized-kept}
+use Rattle.machine.proofs.Laws.OnePlace.{event-touches, others-unchanged, setup-unchanged}
+use Rattle.machine.proofs.Laws.OnePlace.{unused-process, unused-counter, unused-word, sized-kept}
 use Rattle.machine.proofs.Laws.Parts.{after-parts, answers-parts, journal-parts, events-parts, journal-length, lent-length}
 use Rattle.machine.proofs.Laws.Room.Gate.{enter-room, await-room}
 use Rattle.machine.proofs.Laws.Room.Getname.{getname-room}

@@ -7,13 +7,15 @@ use Prim.Native.Nat.{ℕ, _*_, _^_, _≤_, _<_}
 use native.Mathlib.Decide.{ℕ-discrete}
 use lib.Dec.{eqb, ltb, leb}
 use lib.ListN.{getD}
-use Rattle.machine.proofs.Rules.{_≡_, refl, true, false, or-true, _||_, Bool, arith, lt-ltb, eq-eqb, le-leb, le-ltb, eqb-true, ltb-false, ltb-true, ne-eqb, leb-true, eqb-false}
+use Rattle.machine.proofs.Rules.{_≡_, refl, true, false, or-true, _||_, Bool, arith, lt-ltb, eq-eqb, le-leb}
+use Rattle.machine.proofs.Rules.{le-ltb, eqb-true, ltb-false, ltb-true, ne-eqb, leb-true, eqb-false}
 use Rattle.machine.specs.Below.{allBelow}
 use Rattle.machine.specs.Check.{allOf}
 use Rattle.machine.specs.Setup.{names, within, isLeaves, setupChecks, setupAnswer}
 use Rattle.machine.specs.Stage.{exhausted}
 use Rattle.machine.specs.State.{none, processAt, counterAt, wordAt, freshCounter}
-use Rattle.machine.specs.Range.{gateInRange, placeTest, counterTest, wordTest, processTests, processTest, entryTests, rangeTests, inRange, ProcessRanges}
+use Rattle.machine.specs.Range.{gateInRange, placeTest, counterTest, wordTest, processTests}
+use Rattle.machine.specs.Range.{processTest, entryTests, rangeTests, inRange, ProcessRanges}
 use Rattle.machine.specs.declared.Process.{Process}
 use Rattle.machine.specs.declared.Setup.{Setup}
 use Rattle.machine.specs.declared.State.{State}

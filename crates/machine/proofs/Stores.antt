@@ -15,7 +15,8 @@ use Rattle.machine.specs.Gate.{joined, movedUp, headGone}
 use Rattle.machine.specs.Range.{gateInRange, ProcessRanges}
 use Rattle.machine.specs.Setup.{names}
 use Rattle.machine.specs.Stage.{exhausted}
-use Rattle.machine.specs.State.{none, noProcess, freshProcess, withStage, withNode, withName, processAt, withProcess, withCounter, withWord, withGate, withQueue, rebuilt, freshCounter}
+use Rattle.machine.specs.State.{none, noProcess, freshProcess, withStage, withNode, withName, processAt}
+use Rattle.machine.specs.State.{withProcess, withCounter, withWord, withGate, withQueue, rebuilt, freshCounter}
 use Rattle.machine.specs.declared.Process.{Process}
 use Rattle.machine.specs.declared.Setup.{Setup}
 use Rattle.machine.specs.declared.State.{State}

@@ -15,7 +15,8 @@ use Rattle.machine.specs.Range.{inRange}
 use Rattle.machine.specs.Reports.{gateReport, statusAnswer, statusRecords}
 use Rattle.machine.specs.Setup.{plain}
 use Rattle.machine.specs.Runs.{request, step, release, line}
-use Rattle.machine.specs.State.{done, none, freshProcess, withStage, withNode, withSegment, withName, withSteps, processAt, counterAt, withGate, withQueue, withCounter, withWord, withProcess, update, fresh, blank, setup}
+use Rattle.machine.specs.State.{done, none, freshProcess, withStage, withNode, withSegment, withName, withSteps, processAt}
+use Rattle.machine.specs.State.{counterAt, withGate, withQueue, withCounter, withWord, withProcess, update, fresh, blank, setup}
 use Rattle.machine.specs.declared.Process.{Process}
 use Rattle.machine.specs.declared.State.{State}
 use Rattle.machine.specs.declared.Status.{Status}

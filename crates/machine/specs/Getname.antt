@@ -5,7 +5,8 @@ use Prim.Native.Nat.{ℕ, _+_, _*_, _-_}
 use lib.Dec.{ltb}
 use Rattle.machine.specs.Operations.{setFirstZero, boundedDecrement}
 use Rattle.machine.specs.Stage.{working, exhausted}
-use Rattle.machine.specs.State.{withStage, withNode, withSegment, withName, withSteps, processAt, counterAt, wordAt, withCounter, withWord, update}
+use Rattle.machine.specs.State.{withStage, withNode, withSegment, withName, withSteps}
+use Rattle.machine.specs.State.{processAt, counterAt, wordAt, withCounter, withWord, update}
 use Rattle.machine.specs.declared.ClaimStep.{ClaimStep}
 use Rattle.machine.specs.declared.ClaimStep.the-variants.{Left, Right, Won, NextSegment, Exhausted}
 use Rattle.machine.specs.declared.Process.{Process}

@@ -13,7 +13,8 @@ use Rattle.machine.specs.Putname.{giveBack, climb, putnameStep}
 use Rattle.machine.specs.Room.{canFall, canRise, climbRoom, putnameRoom}
 use Rattle.machine.specs.Setup.{names}
 use Rattle.machine.specs.Stage.{remainder, entry, working, putname}
-use Rattle.machine.specs.State.{done, none, noProcess, freshProcess, withStage, withNode, processAt, counterAt, wordAt, freshCounter, withProcess, withCounter, withWord, rebuilt, Sized}
+use Rattle.machine.specs.State.{done, none, noProcess, freshProcess, withStage, withNode, processAt, counterAt}
+use Rattle.machine.specs.State.{wordAt, freshCounter, withProcess, withCounter, withWord, rebuilt, Sized}
 use Rattle.machine.specs.declared.Process.{Process}
 use Rattle.machine.specs.declared.Setup.{Setup}
 use Rattle.machine.specs.declared.State.{State}

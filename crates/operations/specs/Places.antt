@@ -11,7 +11,8 @@ use Rattle.machine.specs.Range.{ProcessRanges}
 use Rattle.machine.specs.Setup.{names, setupAnswer}
 use Rattle.machine.specs.Stage.{remainder, entry, working, putname}
 use Rattle.machine.specs.Operations.{clrBit}
-use Rattle.machine.specs.State.{done, none, freshProcess, withStage, withNode, withName, processAt, counterAt, wordAt, withGate, withQueue, withCounter, withWord, withProcess}
+use Rattle.machine.specs.State.{done, none, freshProcess, withStage, withNode, withName, processAt}
+use Rattle.machine.specs.State.{counterAt, wordAt, withGate, withQueue, withCounter, withWord, withProcess}
 use Rattle.machine.specs.declared.Done.{Done}
 use Rattle.machine.specs.declared.Process.{Process}
 use Rattle.machine.specs.declared.Setup.{Setup}

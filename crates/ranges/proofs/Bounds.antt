@@ -13,7 +13,8 @@ use lib.Bits.{bitOr, or-add-and, and-le-l, and-le-r}
 use lib.Dec.{eqb, ltb, leb}
 use lib.ListN.{getD}
 use lib.Pow.{pow-pos}
-use Rattle.machine.proofs.Rules.{_≡_, refl, cond, false, Bool, _||_, true, _&&_, ⊎-elim, inl, inr, arith, eq-eqb, leb-true, eqb-true, lt-ltb, le-leb, le-ltb, ltb-true}
+use Rattle.machine.proofs.Rules.{_≡_, refl, cond, false, Bool, _||_, true, _&&_, ⊎-elim, inl, inr}
+use Rattle.machine.proofs.Rules.{arith, eq-eqb, leb-true, eqb-true, lt-ltb, le-leb, le-ltb, ltb-true}
 use Rattle.machine.specs.Below.{allBelow}
 use Rattle.machine.specs.Range.{placeTest, wordTest}
 use Rattle.machine.specs.declared.Setup.{Setup}

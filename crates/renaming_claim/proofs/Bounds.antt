@@ -18,7 +18,8 @@ use Rattle.machine.proofs.Facts.Leaves.{leaves-low}
 use Rattle.renaming_claim.proofs.Facts.Sums.{sum-le}
 use Rattle.renaming_claim.proofs.Invariant.{tally, inSubtree, inSegments, Bound, SubtreeBound, SegmentBound, CounterIs, Bounds}
 use Rattle.renaming_claim.proofs.Mover.{Setup, Process, State, processAt, Mover, inv, limits, stored, counts}
-use Rattle.renaming_claim.proofs.Regions.{first-leaf, count-leaf, subtree-out, subtree-same, segments-out, segments-same, segments-subtree}
+use Rattle.renaming_claim.proofs.Regions.{first-leaf, count-leaf, subtree-out, subtree-same}
+use Rattle.renaming_claim.proofs.Regions.{segments-out, segments-same, segments-subtree}
 
 module _ {M : ℕ} {s : State} {p : ℕ} (m : Mover M s p) where
   abbrev c : Setup

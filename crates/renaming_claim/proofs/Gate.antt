@@ -14,7 +14,8 @@ use lib.Dec.{eqb, ltb, leb}
 use lib.IntN.{ℤ, pos, negsuc, sucℤ, predℤ}
 use lib.ListN.{length, getD, set}
 use lib.Seq.{getD-set-same, getD-set-other}
-use Rattle.machine.proofs.Rules.{sym, _≡_, _∙_, ap, refl, cond, false, Bool, not, _||_, true, _&&_, false≢true, _≢_, arith, lt-ltb, ne-eqb, le-leb, lt-leb, le-ltb}
+use Rattle.machine.proofs.Rules.{sym, _≡_, _∙_, ap, refl, cond, false, Bool, not, _||_, true, _&&_}
+use Rattle.machine.proofs.Rules.{false≢true, _≢_, arith, lt-ltb, ne-eqb, le-leb, lt-leb, le-ltb}
 use Rattle.machine.specs.Admitted.{isAdmitted, admitted}
 use Rattle.machine.specs.Below.{allBelow, anyBelow, sumBelow, indicator as ind}
 use Rattle.machine.specs.Gate.{above0, among, inQueue, movedUp, headGone}
@@ -22,7 +23,8 @@ use Rattle.machine.specs.Stage.{waiting, getname}
 use Rattle.machine.proofs.Facts.Lists.{getD-moved}
 use Rattle.renaming_claim.proofs.Facts.Sums.{ind-le, sum-eq, sum-add, sum-const, sum-first, sum-swap, sum-found}
 use Rattle.renaming_claim.proofs.Invariant.{at, tally, beyond, occurs, allOpen, GateWord, Gate}
-use Rattle.renaming_claim.proofs.Mover.{Setup, Process, State, processAt, Mover, inv, unqueued, stored, own-stored, other-stored, counts}
+use Rattle.renaming_claim.proofs.Mover.{Setup, Process, State, processAt, Mover, inv}
+use Rattle.renaming_claim.proofs.Mover.{unqueued, stored, own-stored, other-stored, counts}
 
 any-is : (n : ℕ) (f : ℕ → Bool) → anyBelow n f ≡ ltb 0 (sumBelow n (λ i. ind (f i)))
 unfolding allBelow sumBelow

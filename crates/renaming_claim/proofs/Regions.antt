@@ -21,7 +21,8 @@ use Rattle.renaming_claim.proofs.Facts.Computed.{_⊓_, meet-false}
 use Rattle.renaming_claim.proofs.Facts.Sums.{ind-le, sum-eq, sum-const, sum-split}
 use Rattle.renaming_claim.proofs.Facts.Tree as tree
 use Rattle.renaming_claim.proofs.Facts.Tree.{under, pair, under-self}
-use Rattle.renaming_claim.proofs.Invariant.{isOpen, openIn, rank, inSubtree, inSegments, leafNames, nodeFirst, nodeCount, segmentFirst, segmentCount}
+use Rattle.renaming_claim.proofs.Invariant.{isOpen, openIn, rank, inSubtree, inSegments, leafNames}
+use Rattle.renaming_claim.proofs.Invariant.{nodeFirst, nodeCount, segmentFirst, segmentCount}
 
 module _ (c : Setup) where
   open-split : (from n m : ℕ) → openIn c from (n + m) ≡ openIn c from n + openIn c (from + n) m

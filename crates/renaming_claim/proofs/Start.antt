@@ -18,7 +18,8 @@ use Rattle.machine.proofs.Sized.{fresh-sized}
 use Rattle.renaming_claim.proofs.Facts.Computed.{_⊓_}
 use Rattle.renaming_claim.proofs.Facts.Sums.{sum-zero}
 use Rattle.renaming_claim.proofs.Facts.Tree.{width, width-level}
-use Rattle.renaming_claim.proofs.Invariant.{tally, beyond, occurs, hasName, inSubtree, inSegments, nodeFirst, nodeCount, Home, Bound, Invariant}
+use Rattle.renaming_claim.proofs.Invariant.{tally, beyond, occurs, hasName, inSubtree, inSegments}
+use Rattle.renaming_claim.proofs.Invariant.{nodeFirst, nodeCount, Home, Bound, Invariant}
 use Rattle.renaming_claim.proofs.Mover.{Sound, nameless-shape}
 use Rattle.renaming_claim.proofs.Regions.{open-is}
 

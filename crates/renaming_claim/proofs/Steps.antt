@@ -8,7 +8,8 @@ use Prim.Native.Nat.{ℕ, suc, _<_}
 use native.Mathlib.Decide.{ℕ-discrete}
 use native.Mathlib.Numerals.{add-one}
 use lib.Dec.{eqb}
-use Rattle.machine.proofs.Rules.{sym, _≡_, _∙_, ap, refl, true≢false, cond, false, Bool, true, _&&_, and-false, _≢_, inl, _⊎_, inr, arith, eq-eqb, eqb-true, lt-ltb, ne-eqb}
+use Rattle.machine.proofs.Rules.{sym, _≡_, _∙_, ap, refl, true≢false, cond, false, Bool, true, _&&_}
+use Rattle.machine.proofs.Rules.{and-false, _≢_, inl, _⊎_, inr, arith, eq-eqb, eqb-true, lt-ltb, ne-eqb}
 use Rattle.machine.specs.Event.{event, guarded}
 use Rattle.machine.specs.Event.{step as Event·step}
 use Rattle.machine.specs.Kind.{request, step}

@@ -12,7 +12,8 @@ use Rattle.machine.specs.Kind.{release}
 use Rattle.machine.specs.Lists.{showsNone, entryOf, entryBytes}
 use Rattle.machine.specs.Operations.{clrBit}
 use Rattle.machine.specs.Setup.{names}
-use Rattle.machine.specs.State.{done, none, noProcess, processAt, counterAt, wordAt, withName, withGate, withQueue, withCounter, withWord, withProcess}
+use Rattle.machine.specs.State.{done, none, noProcess, processAt, counterAt, wordAt, withName}
+use Rattle.machine.specs.State.{withGate, withQueue, withCounter, withWord, withProcess}
 use Rattle.machine.specs.declared.Done.{Done}
 use Rattle.machine.specs.declared.Process.{Process}
 use Rattle.machine.specs.declared.Setup.{Setup}

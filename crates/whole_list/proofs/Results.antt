@@ -3,7 +3,7 @@
 use mathlib.Core.Path.{_≡_, refl, ap}
 use mathlib.Core.List.{List, [], _∷_, _++_, map}
 use Prim.Native.Nat.{ℕ, zero, suc}
-use lib.ListN.{length, take}
+use lib.ListN.{take}
 use Rattle.machine.specs.Lists.{Event, eventDone, after, answers, entryOf, journal}
 use Rattle.machine.specs.declared.Done.{Done}
 use Rattle.machine.specs.declared.State.{State}

@@ -4,7 +4,8 @@ use Prim.Native.Nat.{ℕ, _<_}
 use lib.Pow.{pow-pos}
 use Rattle.machine.proofs.Rules.{_≡_, _∙_, refl, true, false, arith, lt-ltb, le-leb}
 use Rattle.machine.specs.Setup.{names, setupAnswer}
-use Rattle.machine.specs.State.{noProcess, freshProcess, freshCounter, freshCounterAt, freshProcessAt, processAt, counterAt, fresh, blank}
+use Rattle.machine.specs.State.{noProcess, freshProcess, freshCounter, freshCounterAt}
+use Rattle.machine.specs.State.{freshProcessAt, processAt, counterAt, fresh, blank}
 use Rattle.machine.specs.Range.{gateInRange, inRange}
 use Rattle.machine.specs.declared.Setup.{Setup}
 use Rattle.machine.proofs.Facts.Below.{getD-tabulate, getD-constant}

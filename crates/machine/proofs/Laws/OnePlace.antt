@@ -22,7 +22,8 @@ use Rattle.machine.proofs.Facts.Tests.{by-cond}
 use Rattle.machine.proofs.Places.{leaf-segment, name-segment}
 use Rattle.machine.proofs.Ranges.{Ranges}
 use Rattle.machine.proofs.Sized.{moved-up-length}
-use Rattle.machine.proofs.Moves.{Move, requests, enters, awaits, claims, returns, stays, releases, Outcome, refuses, accepts, event-outcome}
+use Rattle.machine.proofs.Moves.{Move, requests, enters, awaits, claims, returns, stays}
+use Rattle.machine.proofs.Moves.{releases, Outcome, refuses, accepts, event-outcome}
 
 module _ (s : State) (p : ℕ) (k : Ranges s) (kp : p < s .setup .processes) where
   abbrev At : State → Type 0

@@ -15,7 +15,8 @@ use Rattle.machine.specs.Getname.{segmentOf, descend, probe, getnameStep
 use Rattle.machine.specs.Putname.{giveBack, climb, putnameStep}
 use Rattle.machine.specs.Range.{counterTest, wordTest, processTest, inRange, ProcessRanges}
 use Rattle.machine.specs.Stage.{remainder, waiting, getname, working}
-use Rattle.machine.specs.State.{done, none, noProcess, withStage, withSegment, withNode, processAt, counterAt, withGate, withQueue, withCounter, withWord, withProcess, update}
+use Rattle.machine.specs.State.{done, none, noProcess, withStage, withSegment, withNode, processAt}
+use Rattle.machine.specs.State.{counterAt, withGate, withQueue, withCounter, withWord, withProcess, update}
 use Rattle.machine.specs.Touches.{withArrays, Alike, alike, Same}
 use Rattle.machine.specs.declared.Done.{Done}
 use Rattle.machine.specs.declared.Process.{Process}

@@ -19,8 +19,10 @@ use Rattle.renaming_claim.proofs.Bounds.{bounds-move}
 use Rattle.renaming_claim.proofs.Facts.Sums.{sum-with-one}
 use Rattle.renaming_claim.proofs.Facts.Tree.{under, down, under-self, under-up, under-root}
 use Rattle.renaming_claim.proofs.Invariant.{tally, rank, allOpen, inSubtree, inSegments, SubtreeBound, Bounds}
-use Rattle.renaming_claim.proofs.Mover.{Setup, Process, State, processAt, Mover, inv, in-range, own-range, limits, leaves-16, counters-fit, stored, counts-grow}
-use Rattle.renaming_claim.proofs.Regions.{first-left, open-both, rank-right, first-root, count-root, subtree-busy, subtree-out, subtree-apart, segments-out, segments-far, segments-low}
+use Rattle.renaming_claim.proofs.Mover.{Setup, Process, State, processAt, Mover, inv, in-range}
+use Rattle.renaming_claim.proofs.Mover.{own-range, limits, leaves-16, counters-fit, stored, counts-grow}
+use Rattle.renaming_claim.proofs.Regions.{first-left, open-both, rank-right, first-root, count-root, subtree-busy}
+use Rattle.renaming_claim.proofs.Regions.{subtree-out, subtree-apart, segments-out, segments-far, segments-low}
 
 module _ {M : ℕ} {s : State} {p : ℕ} (m : Mover M s p) where
   abbrev c : Setup

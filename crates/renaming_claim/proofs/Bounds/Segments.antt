@@ -18,9 +18,12 @@ use Rattle.machine.proofs.Places.{leaf-segment}
 use Rattle.renaming_claim.proofs.Bits.{word-of, bit-of, Filled, filled}
 use Rattle.renaming_claim.proofs.Bounds.{segment-bound, bound-keeps, counters-move}
 use Rattle.renaming_claim.proofs.Facts.Sums.{sum-with-one, hits, hits-le, hits-out}
-use Rattle.renaming_claim.proofs.Invariant.{tally, openIn, rank, words, segmentCount, inSubtree, inSegments, Stands, SegmentBound, Bounds}
-use Rattle.renaming_claim.proofs.Mover.{Setup, Process, State, processAt, Mover, inv, by-stage, in-range, own-range, limits, stored, counts-grow}
-use Rattle.renaming_claim.proofs.Regions.{rank-split, open-next, rank-next, subtree-same, segments-in, segments-low, segments-next, segments-on}
+use Rattle.renaming_claim.proofs.Invariant.{tally, openIn, rank, words, segmentCount, inSubtree}
+use Rattle.renaming_claim.proofs.Invariant.{inSegments, Stands, SegmentBound, Bounds}
+use Rattle.renaming_claim.proofs.Mover.{Setup, Process, State, processAt, Mover, inv, by-stage}
+use Rattle.renaming_claim.proofs.Mover.{in-range, own-range, limits, stored, counts-grow}
+use Rattle.renaming_claim.proofs.Regions.{rank-split, open-next, rank-next, subtree-same}
+use Rattle.renaming_claim.proofs.Regions.{segments-in, segments-low, segments-next, segments-on}
 
 module _ {M : ℕ} {s : State} {p : ℕ} (m : Mover M s p) (st : processAt s p .stage ≡ getname)
     (leaf : s .setup .leaves ≤ processAt s p .node) where

@@ -24,7 +24,8 @@ use Rattle.renaming_claim.proofs.Bounds.Segments.{low-name, not-last, b
 use Rattle.renaming_claim.proofs.Facts.Tree.{leaf-level, depth-le}
 use Rattle.renaming_claim.proofs.Gate.{gate-past}
 use Rattle.renaming_claim.proofs.Invariant.{isOpen, words, Claiming, Bounds, Invariant}
-use Rattle.renaming_claim.proofs.Mover.{Setup, Process, State, processAt, Mover, by-stage, own-range, limits, leaves-16, stored, shapes-set, shapes-nameless}
+use Rattle.renaming_claim.proofs.Mover.{Setup, Process, State, processAt, Mover, by-stage, own-range}
+use Rattle.renaming_claim.proofs.Mover.{limits, leaves-16, stored, shapes-set, shapes-nameless}
 
 decrement-is : (n : ℕ) → boundedDecrement n .word ≡ n - 1
 unfolding boundedDecrement

@@ -22,7 +22,8 @@ use Rattle.machine.specs.Runs.{request, step, release}
 use Rattle.machine.specs.Setup.{log2}
 use Rattle.machine.specs.Stage.{remainder, entry, working, putname, exhausted}
 use Rattle.machine.specs.Setup.{plain}
-use Rattle.machine.specs.State.{none, freshProcess, withStage, withNode, withSegment, processAt, counterAt, wordAt, withCounter, withProcess, update, fresh}
+use Rattle.machine.specs.State.{none, freshProcess, withStage, withNode, withSegment, processAt}
+use Rattle.machine.specs.State.{counterAt, wordAt, withCounter, withProcess, update, fresh}
 use Rattle.machine.specs.declared.ClaimStep.{ClaimStep}
 use Rattle.machine.specs.declared.ClaimStep.the-variants.{Left, Right}
 use Rattle.machine.specs.declared.State.{State}

@@ -3,7 +3,8 @@
 use Prim.Native.Nat.{ℕ, zero, suc, _<_}
 use lib.Dec.{ltb, leb·suc-suc}
 use lib.IntN.{ℤ, pos, negsuc, sucℤ, predℤ}
-use Rattle.machine.proofs.Rules.{_≡_, _∙_, sym, refl, true, false, cond, Bool, _&&_, false≢true, arith, lt-ltb, le-leb, ltb-true, leb-true}
+use Rattle.machine.proofs.Rules.{_≡_, _∙_, sym, refl, true, false, cond, Bool, _&&_}
+use Rattle.machine.proofs.Rules.{false≢true, arith, lt-ltb, le-leb, ltb-true, leb-true}
 use Rattle.machine.specs.Gate.{above0, inQueue, lowered, joined, enter, await}
 use Rattle.machine.specs.Range.{gateInRange, inRange, ProcessRanges}
 use Rattle.machine.specs.Room.{canFall, canRise, enterRoom}

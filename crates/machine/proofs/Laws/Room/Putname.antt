@@ -13,7 +13,8 @@ use Rattle.machine.specs.Range.{inRange, ProcessRanges}
 use Rattle.machine.specs.Room.{canRise, climbRoom, putnameRoom}
 use Rattle.machine.specs.Stage.{remainder}
 use Rattle.machine.specs.Setup.{names}
-use Rattle.machine.specs.State.{none, withStage, withSegment, withNode, withName, processAt, counterAt, wordAt, freshCounter, withCounter, update, Sized}
+use Rattle.machine.specs.State.{none, withStage, withSegment, withNode, withName, processAt}
+use Rattle.machine.specs.State.{counterAt, wordAt, freshCounter, withCounter, update, Sized}
 use Rattle.machine.specs.declared.Process.{Process}
 use Rattle.machine.specs.declared.State.{State}
 use Rattle.machine.proofs.Facts.Tests.{same-test}

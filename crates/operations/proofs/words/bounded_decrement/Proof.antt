@@ -4,10 +4,6 @@ use Rattle.machine.specs.Operations.{boundedDecrement}
 use Rattle.operations.proofs.words.bounded_decrement.Statement.{statement}
 use Rattle.operations.proofs.words.bounded_decrement.Tie as tie
 
-returns-2 : tie.Need-returns-2
-unfolding boundedDecrement
-returns-2 c = simp (ne-eqb _ _ (c .if1 .left))
-
 pub bounded-decrement-spec : {M : Type 1} → statement M
 bounded-decrement-spec =
     tie.close
@@ -15,4 +11,4 @@ bounded-decrement-spec =
     -- `c == 0`
     (λ c. unfold boundedDecrement in rw (c .if1 .taken))
     -- otherwise
-    (λ c. search needs) returns-2)
+    (λ c. search needs) (λ c. unfold boundedDecrement in simp (ne-eqb _ _ (c .if1 .left))))

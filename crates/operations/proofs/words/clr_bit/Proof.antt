@@ -13,10 +13,6 @@ returns : tie.Need-returns
 unfolding clrBit
 returns c = rw (c .power .ensures) (simp (eq-eqb _ _ (c .before .if1 .taken)))
 
-returns-2 : tie.Need-returns-2
-unfolding clrBit
-returns-2 c = simp (ne-eqb _ _ (c .if1 .left))
-
 pub clr-bit-spec : {M : Type 1} → statement M
 clr-bit-spec =
     tie.close
@@ -24,4 +20,4 @@ clr-bit-spec =
     -- the bit is set
     (λ c. search needs) (λ c κs. search needs) sub-result returns
     -- it is clear
-    returns-2)
+    (λ c. unfold clrBit in simp (ne-eqb _ _ (c .if1 .left))))

@@ -1,7 +1,8 @@
 -- `is_name` meets its contract: one more than none is 0 in a byte, and one more than a name is itself. Assumes nothing.
 use Prim.Native.Nat.{ℕ, _+_, _%_, _≤_}
 use lib.Dec.{leb, ltb, eqb}
-use Rattle.machine.proofs.Rules.{_≡_, refl, Bool, true, false, or-true, arith, needs, eqb-true, eqb-false, ltb-true, ltb-false, le-leb, lt-leb}
+use Rattle.machine.proofs.Rules.{_≡_, refl, Bool, true, false, or-true, arith, needs}
+use Rattle.machine.proofs.Rules.{eqb-true, eqb-false, ltb-true, ltb-false, le-leb, lt-leb}
 use Rattle.machine.specs.Range.{nameTest}
 use Rattle.ranges.proofs.range.is_name.Statement.{statement}
 use Rattle.ranges.proofs.range.is_name.Tie as tie

@@ -3,8 +3,5 @@ use borrow.Author.Needs.{needs}
 use Rattle.status.proofs.record.status_of.Statement.{statement}
 use Rattle.status.proofs.record.status_of.Tie as tie
 
-returns : tie.Need-returns
-returns c = search needs
-
 pub status-of-spec : {M : Type 1} → statement M
-status-of-spec = tie.close (tie.spec returns)
+status-of-spec = tie.close (tie.spec (λ c. search needs))
