@@ -4,6 +4,10 @@ use Rattle.machine.specs.Lists.{run, runJournal}
 use Rattle.renaming.proofs.list.run.Statement.{statement}
 use Rattle.renaming.proofs.list.run.Tie as tie
 
+short : tie.Need-returns-2
+unfolding run runJournal
+short c = search tests
+
 returns-3 : tie.Need-returns-3
 unfolding run runJournal
 returns-3 c = search (tests, sym (c .before .in-range .ensures) ∙ not-true _ (c .if3 .taken))
@@ -29,7 +33,7 @@ run-spec =
     -- an odd list
     (λ c. unfold run runJournal in search tests)
     -- a short journal
-    (λ c. search needs) (λ c. unfold run runJournal in search tests)
+    (λ c. search needs) short
     -- a broken state
     (λ c κs. search needs) returns-3
     -- the run
