@@ -8,8 +8,7 @@ claim-spec =
     tie.close
     (tie.spec
     -- the sum, and which variant it is
-    (λ c. search needs) (λ c. search needs) (λ c. search needs) (λ c. search needs) (λ c. search needs)
-    (λ c. search needs)
+    (λ c. search needs) (λ c. search needs) (λ c. search needs) (λ c. search needs) (λ c. search needs) (λ c. search needs)
     -- Left, Right, Won, NextSegment, Exhausted
     (λ c. rw (c .before .c .given .1)) (λ c. rw (c .before .c2 .given .1)) (λ c. rw (c .before .c3 .given .1))
     (λ c. rw (c .before .c4 .given .1)) (λ c. rw (c .enum-told .given .1)))
