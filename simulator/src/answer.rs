@@ -31,3 +31,7 @@ pub const SHORT: u8 = 13;
 pub const ODD: u8 = 14;
 /// Document 01: broken state.
 pub const BROKEN_STATE: u8 = 15;
+/// Document 02, request a: the file would be too long.
+pub const TOO_LONG: u8 = 16;
+/// Document 02, request a: the buffer is shorter than the file.
+pub const NO_ROOM: u8 = 17;

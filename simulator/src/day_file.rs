@@ -1,7 +1,7 @@
 //! The day file (the field's word: trace file).
 
-use crate::answer::{CONTENTS, NO_DAY_FILE};
-use crate::state::State;
+use crate::answer::{CONTENTS, NO_DAY_FILE, NO_ROOM, ODD, TOO_LONG};
+use crate::state::{check_setup, State};
 
 /// Bytes 0 to 4.
 pub const HEAD: [u8; 5] = *b"TURN\x02";
@@ -67,6 +67,24 @@ pub fn read_day_file(file: &[u8]) -> Result<(State, &[u8]), u8> {
     }
     let state = State::setup(file[23], file[24], file[25], file[26])?;
     Ok((state, events))
+}
+
+/// Writes the day file of a setup and its events to the start of the buffer
+/// and gives the file's length, or the refusal's number. A refused call
+/// writes nothing. The events are not run.
+pub fn write_day_file(setup: [u8; 4], events: &[u8], buffer: &mut [u8]) -> Result<usize, u8> {
+    let [n, l, g, b] = setup;
+    check_setup(n, l, g, b)?;
+    if !events.len().is_multiple_of(2) {
+        return Err(ODD);
+    }
+    if events.len() > LONGEST - EVENTS_AT {
+        return Err(TOO_LONG);
+    }
+    let file = lay_out(setup, events);
+    let room = buffer.get_mut(..file.len()).ok_or(NO_ROOM)?;
+    room.copy_from_slice(&file);
+    Ok(file.len())
 }
 
 /// Lays a file out without any check, so that faulty ones can be made too.

@@ -1,5 +1,5 @@
 //! An independent simulator of document 01's machine, written from documents
-//! 01 and 02 alone. None of document 02's requests is built here.
+//! 01 and 02 alone. Of document 02's requests, a is built here.
 //!
 //! The code uses the field's terms: process (handset), name (pad), segment
 //! (row of a leaf), steps (spent), request, step and release (ask, turn and
@@ -20,11 +20,12 @@ pub mod reports;
 pub mod rolls;
 pub mod state;
 pub mod text;
+pub mod writes;
 
 #[cfg(test)]
 mod tests;
 
-pub use day_file::read_day_file;
+pub use day_file::{read_day_file, write_day_file};
 pub use image::{digest, IMAGE_BYTES};
 pub use reports::{GateReport, Status};
 pub use state::{Process, State};

@@ -6,12 +6,13 @@ use std::path::Path;
 use std::process::ExitCode;
 use std::{env, fs};
 
-use simulator::{calls, cases, file_text, morning, rolls};
+use simulator::{calls, cases, file_text, morning, rolls, writes};
 
 const USAGE: &str = "usage: simulator run FILE
        simulator cases SEED COUNT DIR
        simulator calls SEED COUNT DIR
        simulator rolls SEED COUNT DIR
+       simulator writes SEED COUNT DIR
        simulator morning SEED FILE";
 
 enum Failure {
@@ -60,6 +61,10 @@ fn command(arguments: &[OsString]) -> Result<(), Failure> {
         (Some("rolls"), [seed, count, folder]) => {
             let (seed, count) = (number(seed)?, number(count)?);
             Ok(rolls::write(seed, count, Path::new(folder))?)
+        }
+        (Some("writes"), [seed, count, folder]) => {
+            let (seed, count) = (number(seed)?, number(count)?);
+            Ok(writes::write(seed, count, Path::new(folder))?)
         }
         (Some("morning"), [seed, file]) => Ok(fs::write(file, morning::file(number(seed)?))?),
         _ => Err(Failure::Usage),

@@ -14,8 +14,8 @@ use crate::state::State;
 use std::path::Path;
 use std::{fs, io};
 
-/// What a lent journal or roll holds beforehand.
-const UNTOUCHED: u8 = 170;
+/// What a lent journal, roll or buffer holds beforehand.
+pub(crate) const UNTOUCHED: u8 = 170;
 
 /// Both files as they grow, up to a number of records.
 pub struct Records {
@@ -40,15 +40,19 @@ impl Records {
     }
 
     /// Adds one record unless the limit is reached.
-    fn add(&mut self, state: &State, call: &[u8], line: &str) {
+    pub(crate) fn push(&mut self, record: &[u8], line: &str) {
         if self.full() {
             return;
         }
-        self.input.extend(state.to_image());
-        self.input.extend(call);
+        self.input.extend(record);
         self.output.push_str(line);
         self.output.push('\n');
         self.count += 1;
+    }
+
+    /// Adds a call on a state.
+    fn add(&mut self, state: &State, call: &[u8], line: &str) {
+        self.push(&[&state.to_image(), call].concat(), line);
     }
 
     pub fn event(&mut self, state: &State, kind: u8, process: u8) {

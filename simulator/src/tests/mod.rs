@@ -4,6 +4,7 @@ mod generators;
 mod orders;
 mod refusals;
 mod rolls;
+mod writes;
 
 use crate::state::State;
 
