@@ -1,4 +1,4 @@
-// A state from 470 bytes, one for each number in the order of its fields, and the figure that shows a state on a line.
+// A state from 470 bytes, one for each number in the order of its fields, and the figure that shows a state or bytes on a line.
 use machine::Process;
 use machine::Setup;
 use machine::State;
@@ -117,6 +117,13 @@ fn mix_bytes(d: u64, bytes: &[u8]) -> u64
         i += 1;
     }
     all
+}
+
+// The figure for bytes.
+pub fn digest_bytes(bytes: &[u8]) -> u64
+    ensures { λ r. ⌜ r ≡ digestFrom 0 (now (bytes .entry)) ⌝ }
+{
+    mix_bytes(0, bytes)
 }
 
 // A process more.

@@ -11,10 +11,7 @@ fn next_size() -> usize {
     if io::read_full(0, &mut head) < 4 {
         return usize::MAX;
     }
-    input::size(head[0])
-        + 256 * input::size(head[1])
-        + 65536 * input::size(head[2])
-        + 16777216 * input::size(head[3])
+    input::length(&head, 0)
 }
 
 fn print_number(n: u64) -> bool {

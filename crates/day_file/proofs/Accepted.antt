@@ -1,5 +1,6 @@
 -- What a file answered 0 has: the layout's length and an even body, its setup's own answer, and the events. The checks decide, whatever
 -- they decide between.
+--     read-answers             the state comes with the file's answer
 --     long, not-long, even     27 to 32,768 bytes, and an even number of bytes for the events
 --     answers, reads           past the layout, the answer and the state are those of the setup's four numbers
 --     has-layout, has-setup    a file answered 0 has the layout, and a setup that is accepted
@@ -10,13 +11,22 @@ use Prim.Native.Nat.{ℕ, _-_, _%_, _≤_}
 use native.Mathlib.Decide.{ℕ-discrete}
 use lib.Dec.{leb, eqb}
 use lib.ListN.{length}
-use Rattle.machine.proofs.Rules.{_≡_, _∙_, sym, refl, leb-true, eqb-true}
+use Rattle.machine.proofs.Rules.{_≡_, _∙_, sym, ap, refl, leb-true, eqb-true}
+use Rattle.machine.specs.Check.{checked}
 use Rattle.machine.specs.Setup.{setupAnswer}
 use Rattle.machine.specs.State.{done, fresh, blank, setup}
-use Rattle.machine.proofs.Facts.Checks.{Passed, all-passed, accepted-with, refused-with}
+use Rattle.machine.specs.declared.Done.{Done}
+use Rattle.machine.proofs.Facts.Checks.{Passed, read-of, all-passed, accepted-with, refused-with}
 use Rattle.machine.proofs.Facts.Tests.{and-left, and-right}
-use Rattle.machine.proofs.Laws.Setup.{setup-accepted}
-use Rattle.day_file.specs.Layout.{isEntry, bodySize, bodySetup, layoutChecks, layoutAnswer, fileAnswer, readSetup}
+use Rattle.machine.proofs.Laws.Setup.{setup-answers, setup-accepted}
+use Rattle.day_file.specs.Layout.{isEntry, eventsEntry, bodySize, bodySetup, layoutChecks, layoutAnswer, fileAnswer, readSetup}
+
+-- the state comes with the file's own answer
+pub read-answers : (f : List ℕ) → readSetup f .answer ≡ fileAnswer f
+unfolding readSetup fileAnswer
+read-answers f =
+    read-of (λ (d : Done). d .answer) (layoutChecks f) (λ a. done a blank) (setup (bodySetup f))
+    ∙ ap (checked (layoutChecks f) (λ a. a)) (setup-answers (bodySetup f))
 
 module _ (f : List ℕ) (kept : layoutAnswer f ≡ 0) where
   passed : Passed (layoutChecks f)
@@ -32,7 +42,7 @@ module _ (f : List ℕ) (kept : layoutAnswer f ≡ 0) where
   pub even : (length f - 27) % 2 ≡ 0
   even =
       eqb-true (bodySize f % 2) 0
-      (and-right (isEntry f 14 2 27 (bodySize f)) (eqb (bodySize f % 2) 0) (passed .1 .1 .1 .0))
+      (and-right (isEntry f 14 (eventsEntry (bodySize f))) (eqb (bodySize f % 2) 0) (passed .1 .1 .1 .0))
 
   pub answers : fileAnswer f ≡ setupAnswer (bodySetup f)
   unfolding layoutAnswer fileAnswer

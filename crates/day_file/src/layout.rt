@@ -4,11 +4,17 @@ use machine::answer;
 ghost use mathlib.Core.Path.{_≡_};
 ghost use Prim.Native.Nat.{_+_, _≤_};
 ghost use lib.ListN.{length};
-ghost use Rattle.day_file.specs.Layout.{isMarked, isEntry, bodySetup, layoutAnswer};
+ghost use Rattle.day_file.specs.Layout.{headSize, isMarked, entry, isEntry, bodySetup, layoutAnswer};
 ghost use Rattle.day_file.specs.Layout.{word as Layout·word};
 
 // What a day file begins with.
 pub(crate) const TURN: [u8; 4] = *b"TURN";
+
+// What stands before the events.
+pub(crate) const HEAD_SIZE: usize = 27;
+
+// The bytes that a file has at most.
+pub(crate) const LONGEST: usize = 32768;
 
 fn wide(x: u8) -> u64
     ensures { λ r. ⌜ (r ≡ x) × (r ≤ 255) ⌝ }
@@ -30,7 +36,7 @@ fn word(file: &[u8], at: usize) -> u64
 
 // Bytes 0 to 4: the letters TURN, and 2.
 fn is_marked(file: &[u8]) -> bool
-    requires { ⌜ 27 ≤ length (now file) ⌝ }
+    requires { ⌜ headSize ≤ length (now file) ⌝ }
     ensures { λ r. ⌜ r ≡ isMarked (now (file .entry)) ⌝ }
 {
     if file[0] != TURN[0] {
@@ -51,7 +57,7 @@ fn is_marked(file: &[u8]) -> bool
 // Nine bytes at a place are this entry: its kind, where its body begins, and the body's size.
 fn is_entry(file: &[u8], at: usize, kind: u8, offset: u64, size: u64) -> bool
     requires { ⌜ at + 9 ≤ length (now file) ⌝ }
-    ensures { λ r. ⌜ r ≡ isEntry (now (file .entry)) at kind offset size ⌝ }
+    ensures { λ r. ⌜ r ≡ isEntry (now (file .entry)) at (entry kind offset size) ⌝ }
 {
     if file[at] != kind {
         return false;
@@ -66,10 +72,10 @@ fn is_entry(file: &[u8], at: usize, kind: u8, offset: u64, size: u64) -> bool
 pub(crate) fn layout_answer(file: &[u8]) -> u8
     ensures { λ r. ⌜ r ≡ layoutAnswer (now (file .entry)) ⌝ }
 {
-    if file.len() < 27 {
+    if file.len() < HEAD_SIZE {
         return answer::NO_DAY_FILE;
     }
-    if file.len() > 32768 {
+    if file.len() > LONGEST {
         return answer::NO_DAY_FILE;
     }
     if !is_marked(file) {
@@ -78,7 +84,7 @@ pub(crate) fn layout_answer(file: &[u8]) -> u8
     if !is_entry(file, 5, 1, 23, 4) {
         return answer::CONTENTS;
     }
-    let size = file.len() - 27;
+    let size = file.len() - HEAD_SIZE;
     if !is_entry(file, 14, 2, 27, size as u64) {
         return answer::CONTENTS;
     }
@@ -90,7 +96,7 @@ pub(crate) fn layout_answer(file: &[u8]) -> u8
 
 // Body 1: the setup's four numbers.
 pub(crate) fn body_setup(file: &[u8]) -> Setup
-    requires { ⌜ 27 ≤ length (now file) ⌝ }
+    requires { ⌜ headSize ≤ length (now file) ⌝ }
     ensures { λ r. ⌜ r ≡ bodySetup (now (file .entry)) ⌝ }
 {
     Setup {

@@ -1,5 +1,6 @@
 // The reader of a day file, in two calls: the setup's state, and the events as a part of the file.
 use crate::layout;
+use crate::layout::HEAD_SIZE;
 use fresh::limits;
 use fresh::state;
 use machine::Done;
@@ -7,7 +8,7 @@ use machine::answer;
 use renaming::setup;
 ghost use mathlib.Core.Path.{_≡_};
 ghost use denote.Ref.{ptr};
-ghost use Rattle.day_file.specs.Layout.{fileAnswer, readSetup, readEvents, eventsStart, further};
+ghost use Rattle.day_file.specs.Layout.{fileAnswer, readSetup, readEvents, eventsStart, further, Bytes};
 
 // 0, or the number of the refusal: 10, 11, then 1 to 5.
 pub fn file_answer(file: &[u8]) -> u8
@@ -34,13 +35,15 @@ pub fn read_setup(file: &[u8]) -> Done
     setup::setup(layout::body_setup(file))
 }
 
-// The events, the caller's own file from byte 27 on and no copy; of a refused file, an empty part of it.
+// The events, the caller's own file from byte 27 on and no copy; of a refused file, an empty part of it. The last line of the contract
+// is what a slice's type says, for whoever knows the file as numbers.
 pub fn read_events(file: &[u8]) -> &[u8]
     ensures { λ r. ⌜ (now r ≡ readEvents (now (file .entry)))
-        × (ptr r ≡ further (eventsStart (now (file .entry))) (ptr (file .entry))) ⌝ }
+        × (ptr r ≡ further (eventsStart (now (file .entry))) (ptr (file .entry)))
+        × Bytes (now (file .entry)) ⌝ }
 {
     if file_answer(file) != answer::ACCEPTED {
         return &file[0..0];
     }
-    &file[27..]
+    &file[HEAD_SIZE..]
 }

@@ -1,4 +1,4 @@
--- Facts that mention no machine: tests, lists, the tree, words.
+-- Facts that mention no machine: tests, lists, the tree, words, checks, lent buffers.
 pub mod Tests
 pub mod Below
 pub mod Lists
@@ -6,3 +6,4 @@ pub mod Rows
 pub mod Words
 pub mod Leaves
 pub mod Checks
+pub mod Filled

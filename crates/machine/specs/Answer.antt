@@ -63,3 +63,11 @@ odd = 14
 -- broken state
 abbrev pub brokenState : ℕ
 brokenState = 15
+
+-- Document 02, a): the file would pass 32,768 bytes
+abbrev pub tooLong : ℕ
+tooLong = 16
+
+-- Document 02, a): the buffer is shorter than the file
+abbrev pub noRoom : ℕ
+noRoom = 17

@@ -1,8 +1,9 @@
--- Document 01's machine as definitions, in the document's order. Below and Check are what the others are written with. Room and
+-- Document 01's machine as definitions, in the document's order. Below, Check and Filled are what the others are written with. Room and
 -- Touches are what the laws are said with, and Runs what the computed runs are; Laws, Worked and Controls are what is proved of them.
 pub mod Below
 pub mod Check
 pub mod Answer
+pub mod Filled
 pub mod Setup
 pub mod Operations
 pub mod Stage

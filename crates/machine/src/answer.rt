@@ -30,3 +30,7 @@ pub const SHORT: u8 = 13; // short
 pub const ODD: u8 = 14; // odd
 
 pub const BROKEN_STATE: u8 = 15; // broken state
+
+pub const TOO_LONG: u8 = 16; // document 02, a): the file would pass 32,768 bytes
+
+pub const NO_ROOM: u8 = 17; // document 02, a): the buffer is shorter than the file

@@ -77,3 +77,10 @@ pub struct Status {
     pub name: u8,
     pub steps: u8,
 }
+
+// What a call that fills a lent buffer answers: 0 or the number of a refusal, and how many bytes it wrote.
+#[repr(C)]
+pub struct Written {
+    pub answer: u8,
+    pub size: usize,
+}

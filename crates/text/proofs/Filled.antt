@@ -10,21 +10,22 @@ use lib.ListN.{length, take, drop, length-append}
 use lib.Seq.{sets, length-take-le}
 use Rattle.machine.proofs.Rules.{_≡_, _∙_, sym, ap, refl, true, false, cond, Bool, arith, le-leb, lt-leb}
 use Rattle.machine.specs.Answer as answer
-use Rattle.text.specs.Lent.{given, lentAfter, textOf}
-use Rattle.text.specs.declared.Text.{Text}
-use Rattle.text.proofs.Runs.{sets-start}
+use Rattle.machine.specs.Filled.{writtenOf}
+use Rattle.machine.specs.declared.Written.{Written}
+use Rattle.text.specs.Lent.{given, lentAfter}
+use Rattle.machine.proofs.Facts.Lists.{sets-start}
 
 -- what a call promises of the text that it gives, and of the buffer
-abbrev pub Gives : List ℕ → List ℕ → Text → List ℕ → Type 0
+abbrev pub Gives : List ℕ → List ℕ → Written → List ℕ → Type 0
 Gives text lent r o = (r ≡ given text lent) × (o ≡ lentAfter text lent)
 
 module _ (text lent : List ℕ) where
   pub filled : length text ≤ length lent → {o : List ℕ} {r : ℕ} → (r ≡ length text) × (o ≡ sets lent 0 text)
-      → Gives text lent (textOf answer.accepted r) o
+      → Gives text lent (writtenOf answer.accepted r) o
   unfolding given lentAfter
-  filled k p = rw (le-leb (length text) (length lent) k) (ap (textOf 0) (p .0), p .1 ∙ sets-start text lent k)
+  filled k p = rw (le-leb (length text) (length lent) k) (ap (writtenOf 0) (p .0), p .1 ∙ sets-start text lent k)
 
-  pub short : length lent < length text → Gives text lent (textOf answer.short 0) lent
+  pub short : length lent < length text → Gives text lent (writtenOf answer.short 0) lent
   unfolding given lentAfter
   short k = rw (lt-leb (length text) (length lent) k) (refl, refl)
 
@@ -32,13 +33,13 @@ module _ (text lent : List ℕ) where
   unfolding given lentAfter
   within = go (leb (length text) (length lent))
     where
-      go : (t : Bool) → cond t (textOf answer.accepted (length text)) (textOf answer.short 0) .size
+      go : (t : Bool) → cond t (writtenOf answer.accepted (length text)) (writtenOf answer.short 0) .size
           ≤ length (cond t (text ++ drop (length text) lent) lent)
       go true = omega (arith, length-append text (drop (length text) lent))
       go false = omega arith
 
 -- what a call promises that was given the same text by another
-pub given-whole : (text text′ lent : List ℕ) → text ≡ text′ → {d : Text} {o : List ℕ} → Gives text′ lent d o
+pub given-whole : (text text′ lent : List ℕ) → text ≡ text′ → {d : Written} {o : List ℕ} → Gives text′ lent d o
     → Gives text lent d o × ((d .size ≤ length o) × (d .size ≡ length (take (d .size) o)))
 given-whole text text′ lent same p =
     let k = within text′ lent in

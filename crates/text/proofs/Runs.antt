@@ -4,14 +4,13 @@
 --     next, last     one part more, and the last one
 --     parted, done   the last part taken as two, and nothing left
 --     from-start     put at the start, a text ends at its length
---     sets-start     and leaves what it does not reach
 -- Assumes nothing.
 use mathlib.Core.List.{List, [], _∷_, _++_}
 use Prim.Native.Nat.{ℕ, _+_, _≤_}
 use native.Mathlib.Nat.{zero-add}
-use lib.ListN.{length, drop, length-append}
-use lib.Seq.{sets, sets-eq, length-sets}
-use Rattle.machine.proofs.Rules.{_≡_, _∙_, ap, subst, refl, arith}
+use lib.ListN.{length, length-append}
+use lib.Seq.{sets, length-sets}
+use Rattle.machine.proofs.Rules.{_≡_, _∙_, ap, refl, arith}
 use Rattle.machine.proofs.Facts.Lists.{sets-append}
 
 abbrev pub joined : List (List ℕ) → List ℕ
@@ -57,7 +56,3 @@ module _ {o₀ whole o x : List ℕ} {at a : ℕ} where
 
 pub from-start : {A : Type 0} {b n : ℕ} → (b ≡ 0 + n) × A → (b ≡ n) × A
 from-start {n = n} q = (q .0 ∙ zero-add n, q .1)
-
-pub sets-start : (xs l : List ℕ) → length xs ≤ length l → sets l 0 xs ≡ xs ++ drop (length xs) l
-sets-start xs l h =
-    subst (λ (n : ℕ). sets l 0 xs ≡ xs ++ drop n l) (zero-add (length xs)) (sets-eq xs l 0 (omega (arith, h)))

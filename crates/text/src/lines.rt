@@ -1,6 +1,6 @@
 // The lines of a journal, one for each four bytes.
-use crate::Text;
 use crate::figures;
+use machine::Written;
 use machine::answer;
 ghost use mathlib.Core.Path.{_≡_};
 ghost use Prim.Native.Nat.{_+_, _≤_};
@@ -67,18 +67,18 @@ fn put_lines(out: &mut [u8], journal: &[u8]) -> usize
 }
 
 // The text of a journal; 13 when the buffer is shorter than the text.
-pub fn journal_text(journal: &[u8], out: &mut [u8]) -> Text
+pub fn journal_text(journal: &[u8], out: &mut [u8]) -> Written
     ensures { λ r. ⌜ (r ≡ given (lines (now (journal .entry))) (now (out .entry)))
         × (now (out .exit) ≡ lentAfter (lines (now (journal .entry))) (now (out .entry))) ⌝ }
 {
     if !fits(journal, out.len()) {
-        return Text {
+        return Written {
             answer: answer::SHORT,
             size: 0,
         };
     }
     let size = put_lines(&mut *out, journal);
-    Text {
+    Written {
         answer: answer::ACCEPTED,
         size: size,
     }

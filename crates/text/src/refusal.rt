@@ -1,6 +1,6 @@
 // The line of a refused file.
-use crate::Text;
 use crate::figures;
+use machine::Written;
 use machine::answer;
 ghost use mathlib.Core.Path.{_≡_};
 ghost use Prim.Native.Nat.{_≤_};
@@ -26,20 +26,20 @@ fn put_word(out: &mut [u8])
 }
 
 // `refused n`; 13 when the buffer is shorter than that.
-pub(crate) fn refused_text(n: u8, out: &mut [u8]) -> Text
+pub(crate) fn refused_text(n: u8, out: &mut [u8]) -> Written
     ensures { λ r. ⌜ (r ≡ given (refused n) (now (out .entry)))
         × (now (out .exit) ≡ lentAfter (refused n) (now (out .entry))) ⌝ }
 {
     let size = 8 + figures::figure_size(n);
     if out.len() < size {
-        return Text {
+        return Written {
             answer: answer::SHORT,
             size: 0,
         };
     }
     put_word(&mut *out);
     let end = figures::put_figure(&mut *out, 8, n, b'\n');
-    Text {
+    Written {
         answer: answer::ACCEPTED,
         size: end,
     }

@@ -1,19 +1,24 @@
 -- A call given 255 for a number above 255 gives what it would give that number: as a number of a setup, as a kind and as a process both
 -- are refused, at the same check. By the test that fails. Assumes nothing.
+use mathlib.Core.List.{List, _++_}
 use Prim.Native.Nat.{ℕ, _≤_, _<_}
 use lib.Dec.{ltb}
+use lib.ListN.{length, drop}
 use Rattle.machine.proofs.Rules.{_≡_, _∙_, refl, true, false, Bool, arith, le-leb, le-ltb, ltb-true, ne-eqb, lt-leb}
+use Rattle.machine.specs.Check.{checked}
 use Rattle.machine.specs.Event.{event}
+use Rattle.machine.specs.Filled.{writtenOf}
 use Rattle.machine.specs.Range.{inRange}
-use Rattle.machine.specs.Setup.{plain, within, isLeaves}
-use Rattle.machine.specs.State.{setup}
-use Rattle.machine.specs.declared.Done.{Done}
+use Rattle.machine.specs.Setup.{plain, within, isLeaves, setupChecks}
+use Rattle.machine.specs.State.{done, fresh, blank, setup}
+use Rattle.machine.specs.declared.Setup.{Setup}
 use Rattle.machine.specs.declared.State.{State}
 use Rattle.machine.proofs.Ranges.{ranges-of}
+use Rattle.day_file.specs.Writer.{fileBytes, listChecks, writeFile, writeBuffer}
 use Rattle.zevgorim.specs.Narrow.{narrow}
 
 -- what gives the same at 255 as at every larger number gives the same at a number and at its byte
-narrowed-same : (f : ℕ → Done) → ((x : ℕ) → 255 < x → f 255 ≡ f x) → (x : ℕ) → f (narrow x) ≡ f x
+narrowed-same : {A : Type 0} (f : ℕ → A) → ((x : ℕ) → 255 < x → f 255 ≡ f x) → (x : ℕ) → f (narrow x) ≡ f x
 unfolding narrow
 narrowed-same f large x = go (ltb 255 x) refl
   where
@@ -29,14 +34,37 @@ unfolding isLeaves
 large-no-leaves x k =
     rw (ne-eqb x 1 (omega arith), ne-eqb x 2 (omega arith), ne-eqb x 4 (omega arith), ne-eqb x 8 (omega arith), ne-eqb x 16 (omega arith))
 
--- each number of a setup is refused by its own check, whatever the others are
+-- each number of a setup is refused by its own check, whatever the others are and whatever comes after these checks
+module _ {A : Type 0} (refuse : ℕ → A) (accept : Setup → A) where
+  abbrev by-checks : Setup → A
+  by-checks c = checked (setupChecks c) refuse (accept c)
+
+  checks-narrowed : (n l g b : ℕ) → by-checks (plain (narrow n) (narrow l) (narrow g) (narrow b)) ≡ by-checks (plain n l g b)
+  unfolding isLeaves
+  checks-narrowed n l g b =
+      narrowed-same (λ x. by-checks (plain x (narrow l) (narrow g) (narrow b))) (λ x k. rw (large-outside 64 x (omega arith) k)) n
+      ∙ narrowed-same (λ x. by-checks (plain n x (narrow g) (narrow b))) (λ x k. rw (large-no-leaves x k)) l
+      ∙ narrowed-same (λ x. by-checks (plain n l x (narrow b))) (λ x k. rw (large-outside 8 x (omega arith) k)) g
+      ∙ narrowed-same (λ x. by-checks (plain n l g x)) (λ x k. rw (large-outside 8 x (omega arith) k)) b
+
 pub setup-narrowed : (n l g b : ℕ) → setup (plain (narrow n) (narrow l) (narrow g) (narrow b)) ≡ setup (plain n l g b)
-unfolding setup isLeaves
-setup-narrowed n l g b =
-    narrowed-same (λ x. setup (plain x (narrow l) (narrow g) (narrow b))) (λ x k. rw (large-outside 64 x (omega arith) k)) n
-    ∙ narrowed-same (λ x. setup (plain n x (narrow g) (narrow b))) (λ x k. rw (large-no-leaves x k)) l
-    ∙ narrowed-same (λ x. setup (plain n l x (narrow b))) (λ x k. rw (large-outside 8 x (omega arith) k)) g
-    ∙ narrowed-same (λ x. setup (plain n l g x)) (λ x k. rw (large-outside 8 x (omega arith) k)) b
+unfolding setup
+setup-narrowed = checks-narrowed (λ a. done a blank) (λ c. done 0 (fresh c))
+
+module _ (n l g b : ℕ) (events lent : List ℕ) where
+  abbrev later : {A : Type 0} → (ℕ → A) → A → A
+  later = checked (listChecks (length events) (length lent))
+
+  pub write-narrowed : writeFile (plain (narrow n) (narrow l) (narrow g) (narrow b)) events lent ≡ writeFile (plain n l g b) events lent
+  unfolding writeFile
+  write-narrowed =
+      checks-narrowed (λ a. writtenOf a 0) (λ c. later (λ a. writtenOf a 0) (writtenOf 0 (length (fileBytes c events)))) n l g b
+
+  pub buffer-narrowed :
+      writeBuffer (plain (narrow n) (narrow l) (narrow g) (narrow b)) events lent ≡ writeBuffer (plain n l g b) events lent
+  unfolding writeBuffer
+  buffer-narrowed =
+      checks-narrowed (λ a. lent) (λ c. later (λ a. lent) (fileBytes c events ++ drop (length (fileBytes c events)) lent)) n l g b
 
 large-kind : (s : State) (p x : ℕ) → 255 < x → event s 255 p ≡ event s x p
 unfolding event

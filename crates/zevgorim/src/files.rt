@@ -1,13 +1,17 @@
 // The day file and what the program prints for it, for C.
 use crate::Part;
+use crate::narrow;
 use day_file::reader;
+use day_file::writer;
 use machine::Done;
+use machine::Written;
 use machine::answer;
-use text::Text;
 use text::file;
 use text::lines;
 ghost use mathlib.Core.Path.{_≡_};
+ghost use Rattle.machine.specs.Setup.{plain};
 ghost use Rattle.day_file.specs.Layout.{fileAnswer, readSetup, readEvents};
+ghost use Rattle.day_file.specs.Writer.{writeFile, writeBuffer};
 ghost use Rattle.text.specs.File.{fileText};
 ghost use Rattle.text.specs.Lent.{given, lentAfter};
 ghost use Rattle.text.specs.Lines;
@@ -41,8 +45,31 @@ pub extern "C" fn zevgorim_read_events(file: &[u8]) -> Part
     }
 }
 
+// The numbers come in 32 bits and are refused where they are too large: none is cut.
 #[no_mangle]
-pub extern "C" fn zevgorim_journal_text(journal: &[u8], out: &mut [u8]) -> Text
+pub extern "C" fn zevgorim_write_file(
+    n: u32,
+    l: u32,
+    g: u32,
+    b: u32,
+    events: &[u8],
+    out: &mut [u8],
+) -> Written
+    ensures { λ r. ⌜ (r ≡ writeFile (plain n l g b) (now (events .entry)) (now (out .entry)))
+        × (now (out .exit) ≡ writeBuffer (plain n l g b) (now (events .entry)) (now (out .entry))) ⌝ }
+{
+    writer::write_file(
+        narrow::narrowed(n),
+        narrow::narrowed(l),
+        narrow::narrowed(g),
+        narrow::narrowed(b),
+        events,
+        out,
+    )
+}
+
+#[no_mangle]
+pub extern "C" fn zevgorim_journal_text(journal: &[u8], out: &mut [u8]) -> Written
     ensures { λ r. ⌜ (r ≡ given (Lines.lines (now (journal .entry))) (now (out .entry)))
         × (now (out .exit) ≡ lentAfter (Lines.lines (now (journal .entry))) (now (out .entry))) ⌝ }
 {
@@ -50,7 +77,7 @@ pub extern "C" fn zevgorim_journal_text(journal: &[u8], out: &mut [u8]) -> Text
 }
 
 #[no_mangle]
-pub extern "C" fn zevgorim_file_text(file: &[u8], out: &mut [u8]) -> Text
+pub extern "C" fn zevgorim_file_text(file: &[u8], out: &mut [u8]) -> Written
     ensures { λ r. ⌜ (r ≡ given (fileText (now (file .entry))) (now (out .entry)))
         × (now (out .exit) ≡ lentAfter (fileText (now (file .entry))) (now (out .entry))) ⌝ }
 {

@@ -1,11 +1,12 @@
 -- What stands at a place of a list after a store, and after every element moved up by one: by whether it is that place.
 -- Assumes nothing.
 use mathlib.Core.List.{List, [], _∷_, _++_, map}
-use Prim.Native.Nat.{ℕ, zero, suc, _+_, _<_}
+use Prim.Native.Nat.{ℕ, zero, suc, _+_, _≤_, _<_}
 use native.Mathlib.Decide.{ℕ-discrete, decLt}
+use native.Mathlib.Nat.{zero-add}
 use lib.ListN.{length, getD, set, drop, length-set, length-map}
-use lib.Seq.{sets, getD-set-same, getD-set-other, set-out}
-use Rattle.machine.proofs.Rules.{_≡_, _∙_, sym, ap, refl, arith}
+use lib.Seq.{sets, sets-eq, getD-set-same, getD-set-other, set-out}
+use Rattle.machine.proofs.Rules.{_≡_, _∙_, sym, ap, subst, refl, arith}
 use Rattle.machine.specs.Touches.{Agrees}
 
 -- what holds of the value stored, and of what stood there, holds of what stands there after the store
@@ -42,6 +43,11 @@ store-agrees {d = d} {used} {l} {l′} i a k =
 pub sets-append : (xs ys l : List ℕ) (i j : ℕ) → j ≡ i + length xs → sets (sets l i xs) j ys ≡ sets l i (xs ++ ys)
 sets-append [] ys l i j e = ap (λ (k : ℕ). sets l k ys) (omega (arith, e))
 sets-append (x ∷ xs) ys l i j e = sets-append xs ys (set l i x) (suc i) j (omega (arith, e))
+
+-- a run of stores at the start leaves what it does not reach
+pub sets-start : (xs l : List ℕ) → length xs ≤ length l → sets l 0 xs ≡ xs ++ drop (length xs) l
+sets-start xs l h =
+    subst (λ (n : ℕ). sets l 0 xs ≡ xs ++ drop n l) (zero-add (length xs)) (sets-eq xs l 0 (omega (arith, h)))
 
 -- the length of an array of records, as code knows it
 pub length-mapped : (X Y : Type 0) (f : X → Y) (l : List X) (n : ℕ) → length (map f l) ≡ n → length l ≡ n

@@ -1,7 +1,7 @@
 -- `layout_answer` meets its contract: one check after another, in their order, each test from what the call before it told. Assumes
 -- nothing.
 use Rattle.machine.proofs.Rules.{_≡_, _∙_, sym, true, needs, not-true, not-false, tests}
-use Rattle.day_file.specs.Layout.{isMarked, isEntry, bodySize, layoutAnswer}
+use Rattle.day_file.specs.Layout.{isMarked, isEntry, setupEntry, eventsEntry, bodySize, layoutAnswer}
 use Rattle.day_file.proofs.layout.layout_answer.Statement.{statement}
 use Rattle.day_file.proofs.layout.layout_answer.Tie as tie
 
@@ -9,12 +9,12 @@ use Rattle.day_file.proofs.layout.layout_answer.Tie as tie
 marked : (c : tie.Else3) → isMarked (c .before .before .before .before .before .args .file .now) ≡ true
 marked c = sym (c .before .is-marked .ensures) ∙ not-false _ (c .if3 .left)
 
-first : (c : tie.Else4) → isEntry (c .before .before .before .before .before .before .before .args .file .now) 5 1 23 4 ≡ true
+first : (c : tie.Else4) → isEntry (c .before .before .before .before .before .before .before .args .file .now) 5 setupEntry ≡ true
 first c = sym (c .before .is-entry .ensures) ∙ not-false _ (c .if4 .left)
 
 second : (c : tie.Else5)
     → let f = c .before .before .before .before .before .before .before .before .before .args .file .now in
-    isEntry f 14 2 27 (bodySize f) ≡ true
+    isEntry f 14 (eventsEntry (bodySize f)) ≡ true
 second c = sym (c .before .is-entry2 .ensures) ∙ not-false _ (c .if5 .left)
 
 pub layout-answer-spec : {M : Type 1} → statement M
