@@ -14,7 +14,7 @@ _Static_assert(offsetof(zevgorim_state, words) == 86 && offsetof(zevgorim_state,
 _Static_assert(sizeof(zevgorim_done) == 471 && offsetof(zevgorim_done, state) == 1, "done");
 _Static_assert(sizeof(zevgorim_report) == 3 && offsetof(zevgorim_report, free) == 1, "report");
 _Static_assert(sizeof(zevgorim_status) == 3 && offsetof(zevgorim_status, name) == 1, "status");
-_Static_assert(sizeof(zevgorim_text) == 16 && offsetof(zevgorim_text, size) == 8, "text");
+_Static_assert(sizeof(zevgorim_written) == 16 && offsetof(zevgorim_written, size) == 8, "written");
 _Static_assert(sizeof(zevgorim_part) == 16 && offsetof(zevgorim_part, size) == 8, "part");
 
 static int wrong;
@@ -153,7 +153,7 @@ static void check_file(void) {
     is("answer of a file less an event", zevgorim_file_answer(file, sizeof file - 2), ZEVGORIM_CONTENTS);
     is("answer of its setup", zevgorim_read_setup(file, sizeof file - 2).answer, ZEVGORIM_CONTENTS);
     is("size of its events", (long)zevgorim_read_events(file, sizeof file - 2).size, 0);
-    zevgorim_text made = zevgorim_file_text(file, sizeof file, out, sizeof out);
+    zevgorim_written made = zevgorim_file_text(file, sizeof file, out, sizeof out);
     is("answer of the text", made.answer, 0);
     is("size of the text", (long)made.size, (long)strlen(text));
     is("text", memcmp(out, text, strlen(text)), 0);
@@ -165,6 +165,38 @@ static void check_file(void) {
     is("size of a line", (long)zevgorim_journal_text(journal, 4, out, sizeof out).size, 9);
 }
 
+/* what a call that is refused gives: its number, the size 0, and a buffer as it was */
+static void is_refused(zevgorim_written made, int number, const uint8_t *out, size_t size) {
+    is("answer of a refused file", made.answer, number);
+    is("size of a refused file", (long)made.size, 0);
+    for (size_t i = 0; i < size; i++) is("byte of its buffer", out[i], 170);
+}
+
+/* the day file of two events, written; then each refusal */
+static void check_write(void) {
+    static const uint8_t file[] = {'T', 'U', 'R', 'N', 2, 1, 23, 0, 0, 0, 4, 0, 0, 0, 2, 27, 0, 0, 0, 4, 0, 0, 0, 5, 2, 3, 4, 0, 0, 1, 0};
+    static uint8_t list[1 << 20], long_file[32767];
+    uint8_t out[sizeof file + 1];
+    memset(out, 170, sizeof out);
+    is_refused(zevgorim_write_file(0, 3, 9, 9, file + 27, 3, out, 0), ZEVGORIM_PROCESSES, out, sizeof out);
+    is_refused(zevgorim_write_file(5, 256 + 2, 3, 4, file + 27, 4, out, sizeof out), ZEVGORIM_LEAVES, out, sizeof out);
+    is_refused(zevgorim_write_file(5, 2, UINT32_MAX, 4, file + 27, 4, out, sizeof out), ZEVGORIM_SEGMENTS, out, sizeof out);
+    is_refused(zevgorim_write_file(5, 2, 3, 0, file + 27, 4, out, sizeof out), ZEVGORIM_BITS, out, sizeof out);
+    is_refused(zevgorim_write_file(5, 16, 3, 4, file + 27, 4, out, sizeof out), ZEVGORIM_NAMES, out, sizeof out);
+    is_refused(zevgorim_write_file(5, 2, 3, 4, list, sizeof list - 1, out, sizeof out), ZEVGORIM_ODD, out, sizeof out);
+    is_refused(zevgorim_write_file(5, 2, 3, 4, list, sizeof list, out, sizeof out), ZEVGORIM_TOO_LONG, out, sizeof out);
+    is_refused(zevgorim_write_file(5, 2, 3, 4, list, 32742, out, sizeof out), ZEVGORIM_TOO_LONG, out, sizeof out);
+    is_refused(zevgorim_write_file(5, 2, 3, 4, file + 27, 4, out, sizeof file - 1), ZEVGORIM_NO_ROOM, out, sizeof out);
+    is_refused(zevgorim_write_file(5, 2, 3, 4, file + 27, 4, out, 0), ZEVGORIM_NO_ROOM, out, sizeof out);
+    zevgorim_written made = zevgorim_write_file(5, 2, 3, 4, file + 27, 4, out, sizeof out);
+    is("answer of the writer", made.answer, 0);
+    is("size of the file", (long)made.size, (long)sizeof file);
+    is("the file", memcmp(out, file, sizeof file), 0);
+    is("byte past the file", out[sizeof file], 170);
+    is("size of the longest file", (long)zevgorim_write_file(5, 2, 3, 4, list, 32740, long_file, sizeof long_file).size, 32767);
+    is("answer of the longest file", zevgorim_file_answer(long_file, sizeof long_file), 0);
+}
+
 int main(void) {
     check_fresh();
     check_run();
@@ -174,6 +206,7 @@ int main(void) {
     check_large(UINT32_MAX);
     check_edges();
     check_file();
+    check_write();
     puts(wrong ? "the header does not fit the archive" : "the header fits the archive");
     return wrong;
 }

@@ -98,7 +98,7 @@ static int reply(const zevgorim_done *done, uint32_t handset) {
         entry[2] = process->name;
         entry[3] = process->steps;
     }
-    zevgorim_text text = zevgorim_journal_text(entry, sizeof entry, line, sizeof line);
+    zevgorim_written text = zevgorim_journal_text(entry, sizeof entry, line, sizeof line);
     return fwrite(line, 1, text.size, stdout) == text.size && fflush(stdout) == 0;
 }
 

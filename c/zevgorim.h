@@ -1,7 +1,8 @@
 /* The pad claim of the finish box, for C on x86-64 Linux. Links with libzevgorim.a, which `rt staticlib zevgorim` writes.
  *
  * A process is a recorder's handset, a name is a pad. The box's own words stand beside ours below, in brackets.
- * docs/MACHINE.md has the machine, the formats and the numbers. c/live.c is a box at work, c/morning.c a replay of a day file.
+ * docs/MACHINE.md has the machine, the formats and the numbers. c/live.c is a box at work, c/day.c hands its day over as a day file,
+ * c/morning.c replays one.
  *
  *
  * What you may rely on
@@ -62,21 +63,23 @@ extern "C" {
 /* Answers: 0, or the number of the first check that fails. A number handed to a call is looked at whole, and not cut to a byte. */
 enum {
     ZEVGORIM_OK = 0,
-    ZEVGORIM_PROCESSES = 1,    /* [handsets]     N outside 1 to 64 */
-    ZEVGORIM_LEAVES = 2,       /* [leaves]       L not one of 1, 2, 4, 8, 16 */
-    ZEVGORIM_SEGMENTS = 3,     /* [rows]         g outside 1 to 8 */
-    ZEVGORIM_BITS = 4,         /* [bits]         b outside 1 to 8 */
-    ZEVGORIM_NAMES = 5,        /* [pads]         L*g*b above 64 */
-    ZEVGORIM_STRANGER = 6,     /* [stranger]     process not below N */
-    ZEVGORIM_BUSY = 7,         /* [busy]         request, and its stage is not 0 */
-    ZEVGORIM_NOT_MOVING = 8,   /* [not moving]   step, and its stage is 0 or 4 */
-    ZEVGORIM_NO_NAME_HELD = 9, /* [no pad held]  release, and its stage is not 4 */
-    ZEVGORIM_NO_DAY_FILE = 10, /* [no day file]  length outside 27 to 32,768, or bytes 0 to 4 are not TURN and 2 */
-    ZEVGORIM_CONTENTS = 11,    /* [contents]     an entry differs from the layout */
-    ZEVGORIM_KIND = 12,        /* [kind]         kind of event above 2 */
-    ZEVGORIM_SHORT = 13,       /* [short]        a lent buffer is shorter than what it is to hold */
-    ZEVGORIM_ODD = 14,         /* [odd]          list of an odd number of bytes */
-    ZEVGORIM_BROKEN_STATE = 15 /* [broken state] a number of the state outside its range, or a step that would take one outside */
+    ZEVGORIM_PROCESSES = 1,     /* [handsets]     N outside 1 to 64 */
+    ZEVGORIM_LEAVES = 2,        /* [leaves]       L not one of 1, 2, 4, 8, 16 */
+    ZEVGORIM_SEGMENTS = 3,      /* [rows]         g outside 1 to 8 */
+    ZEVGORIM_BITS = 4,          /* [bits]         b outside 1 to 8 */
+    ZEVGORIM_NAMES = 5,         /* [pads]         L*g*b above 64 */
+    ZEVGORIM_STRANGER = 6,      /* [stranger]     process not below N */
+    ZEVGORIM_BUSY = 7,          /* [busy]         request, and its stage is not 0 */
+    ZEVGORIM_NOT_MOVING = 8,    /* [not moving]   step, and its stage is 0 or 4 */
+    ZEVGORIM_NO_NAME_HELD = 9,  /* [no pad held]  release, and its stage is not 4 */
+    ZEVGORIM_NO_DAY_FILE = 10,  /* [no day file]  length outside 27 to 32,768, or bytes 0 to 4 are not TURN and 2 */
+    ZEVGORIM_CONTENTS = 11,     /* [contents]     an entry differs from the layout */
+    ZEVGORIM_KIND = 12,         /* [kind]         kind of event above 2 */
+    ZEVGORIM_SHORT = 13,        /* [short]        a lent journal, roll or text is shorter than what it is to hold */
+    ZEVGORIM_ODD = 14,          /* [odd]          list of an odd number of bytes */
+    ZEVGORIM_BROKEN_STATE = 15, /* [broken state] a number of the state outside its range, or a step that would take one outside */
+    ZEVGORIM_TOO_LONG = 16,     /* the day file to be written would pass 32,768 bytes */
+    ZEVGORIM_NO_ROOM = 17       /* a lent buffer is shorter than the day file to be written */
 };
 
 /* Kinds of event. */
@@ -108,7 +111,7 @@ enum {
     ZEVGORIM_STACK_EVENT = 1280,  /* event, request, step, release, run */
     ZEVGORIM_STACK_REPORT = 1280, /* gate_report, fill_status */
     ZEVGORIM_STACK_READ_SETUP = 1536,
-    ZEVGORIM_STACK_SMALL = 128, /* file_answer, read_events, journal_text */
+    ZEVGORIM_STACK_SMALL = 128, /* file_answer, read_events, write_file, journal_text */
     ZEVGORIM_STACK_FILE_TEXT = 69632
 };
 
@@ -160,11 +163,11 @@ typedef struct {
     uint8_t steps;
 } zevgorim_status;
 
-/* A text in a lent buffer. */
+/* A text or a file in a lent buffer. */
 typedef struct {
     uint8_t answer;
     size_t size; /* bytes written */
-} zevgorim_text;
+} zevgorim_written;
 
 /* A part of a lent file. */
 typedef struct {
@@ -219,17 +222,25 @@ zevgorim_done zevgorim_read_setup(const uint8_t *file, size_t file_len);
 /* Where the file's events are, for zevgorim_run: offset 27 and the rest of the file. Of a refused file offset and size are 0. */
 zevgorim_part zevgorim_read_events(const uint8_t *file, size_t file_len);
 
+/* Writes the day file of a setup and a list of events, two bytes each, at the start of a lent buffer, and says its length, 27 bytes more
+ * than the list's. The events are not run: any two bytes are written. Bytes past the file are untouched. What it wrote is read back as the
+ * same setup and the same events, and a file that is accepted, written out from the two, is that file again.
+ * Refused with 1 to 5 for the setup, 14 for the list, 16 when the file would pass 32,768 bytes (a list of more than 32,740), 17 when the
+ * buffer is shorter than the file: nothing is written and the size is 0. 32,767 bytes are enough for every file. */
+zevgorim_written zevgorim_write_file(uint32_t n, uint32_t l, uint32_t g, uint32_t b, const uint8_t *events, size_t events_len, uint8_t *out,
+                                     size_t out_len);
+
 
 /* Texts, as the program pads prints them, in a lent buffer. Bytes past the text are untouched.
  * Refused with 13 when the buffer is shorter than the text: nothing is written and the size is 0. */
 
 /* A line for each four bytes of a journal: answer, stage, name, steps in decimal, 255 as `-`. Fewer than four bytes at the end are left
  * out. 16 bytes for each line are always enough. */
-zevgorim_text zevgorim_journal_text(const uint8_t *journal, size_t journal_len, uint8_t *out, size_t out_len);
+zevgorim_written zevgorim_journal_text(const uint8_t *journal, size_t journal_len, uint8_t *out, size_t out_len);
 
 /* The lines of a day file's journal, at most 16 bytes for each event. Of a file that zevgorim_file_answer refuses, `refused n` and a line
  * feed, at most 11 bytes; the answer is then 0 too. So 262,144 bytes are enough for every file. */
-zevgorim_text zevgorim_file_text(const uint8_t *file, size_t file_len, uint8_t *out, size_t out_len);
+zevgorim_written zevgorim_file_text(const uint8_t *file, size_t file_len, uint8_t *out, size_t out_len);
 
 #ifdef __cplusplus
 }
