@@ -68,10 +68,10 @@ pub struct Status {
     pub steps: u8,
 }
 
-/// A text in a lent buffer.
+/// What a call that fills a lent buffer answers, and how many bytes it wrote.
 #[repr(C)]
 #[derive(Clone, Copy, PartialEq, Eq, Debug)]
-pub struct Text {
+pub struct Written {
     pub answer: u8,
     pub size: usize,
 }
@@ -96,15 +96,15 @@ const _: () = {
     assert!(size_of::<Done>() == 471);
     assert!(offset_of!(Done, state) == 1);
     assert!(size_of::<Report>() == 3);
-    assert!(size_of::<Text>() == 16);
-    assert!(offset_of!(Text, size) == 8);
+    assert!(size_of::<Written>() == 16);
+    assert!(offset_of!(Written, size) == 8);
     assert!(size_of::<Part>() == 16);
 };
 
 const _: () = assert!(size_of::<Status>() == 3);
 
 mod calls {
-    use super::{Done, Part, Report, State, Text};
+    use super::{Done, Part, Report, State, Written};
 
     extern "C" {
         pub fn zevgorim_setup(n: u32, l: u32, g: u32, b: u32) -> Done;
@@ -128,18 +128,28 @@ mod calls {
         pub fn zevgorim_file_answer(file: *const u8, file_len: usize) -> u8;
         pub fn zevgorim_read_setup(file: *const u8, file_len: usize) -> Done;
         pub fn zevgorim_read_events(file: *const u8, file_len: usize) -> Part;
+        pub fn zevgorim_write_file(
+            n: u32,
+            l: u32,
+            g: u32,
+            b: u32,
+            events: *const u8,
+            events_len: usize,
+            out: *mut u8,
+            out_len: usize,
+        ) -> Written;
         pub fn zevgorim_journal_text(
             journal: *const u8,
             journal_len: usize,
             out: *mut u8,
             out_len: usize,
-        ) -> Text;
+        ) -> Written;
         pub fn zevgorim_file_text(
             file: *const u8,
             file_len: usize,
             out: *mut u8,
             out_len: usize,
-        ) -> Text;
+        ) -> Written;
     }
 }
 
@@ -216,13 +226,20 @@ pub fn read_events(file: &[u8]) -> Part {
 }
 
 #[inline]
-pub fn journal_text(journal: &[u8], out: &mut [u8]) -> Text {
+pub fn write_file([n, l, g, b]: [u32; 4], events: &[u8], out: &mut [u8]) -> Written {
+    let (from, from_len) = (events.as_ptr(), events.len());
+    let (to, to_len) = (out.as_mut_ptr(), out.len());
+    unsafe { calls::zevgorim_write_file(n, l, g, b, from, from_len, to, to_len) }
+}
+
+#[inline]
+pub fn journal_text(journal: &[u8], out: &mut [u8]) -> Written {
     let (to, to_len) = (out.as_mut_ptr(), out.len());
     unsafe { calls::zevgorim_journal_text(journal.as_ptr(), journal.len(), to, to_len) }
 }
 
 #[inline]
-pub fn file_text(file: &[u8], out: &mut [u8]) -> Text {
+pub fn file_text(file: &[u8], out: &mut [u8]) -> Written {
     let (to, to_len) = (out.as_mut_ptr(), out.len());
     unsafe { calls::zevgorim_file_text(file.as_ptr(), file.len(), to, to_len) }
 }

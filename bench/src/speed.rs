@@ -9,11 +9,13 @@ use std::time::{Duration, Instant};
 use simulator::day_file::lay_out;
 
 use crate::archive;
-use crate::lists::{fresh, Kind, KINDS, MOST_EVENTS};
+use crate::lists::{fresh, Kind, Setup, KINDS, MOST_EVENTS};
 
 /// Least rounds of a measurement, and least time.
 const ROUNDS: u32 = 200;
 const LEAST: Duration = Duration::from_secs(1);
+/// Calls in one timed run of a call that takes about a microsecond.
+const BATCH: usize = 64;
 /// Rounds of whole programs.
 const PROGRAM_ROUNDS: u32 = 30;
 /// Events of a list call.
@@ -141,17 +143,24 @@ fn seconds(run: impl FnOnce()) -> f64 {
     start.elapsed().as_secs_f64()
 }
 
-/// The best of many rounds, in each of which both sides run.
-fn best<On>(on: &mut On, archive: fn(&mut On), simulator: fn(&mut On)) -> Best {
-    let mut best = Best::NONE;
+/// The best times of many rounds, in each of which all run.
+fn best_times<On, const COUNT: usize>(on: &mut On, all: [fn(&mut On); COUNT]) -> [f64; COUNT] {
+    let mut best = [f64::MAX; COUNT];
     let start = Instant::now();
     let mut rounds = 0;
     while rounds < ROUNDS || start.elapsed() < LEAST {
-        best.archive = best.archive.min(seconds(|| archive(black_box(on))));
-        best.simulator = best.simulator.min(seconds(|| simulator(black_box(on))));
+        for (best, run) in best.iter_mut().zip(all) {
+            *best = best.min(seconds(|| run(black_box(on))));
+        }
         rounds += 1;
     }
     best
+}
+
+/// The best times of both sides.
+fn best<On>(on: &mut On, archive: fn(&mut On), simulator: fn(&mut On)) -> Best {
+    let [archive, simulator] = best_times(on, [archive, simulator]);
+    Best { archive, simulator }
 }
 
 /// Nanoseconds for an event of the list call and of the event call.
@@ -228,6 +237,78 @@ fn text_cells(file: &[u8]) -> String {
     best.cells(1e-6)
 }
 
+/// The largest day file, and buffers for it.
+struct Files {
+    setup: Setup,
+    events: Vec<u8>,
+    file: Vec<u8>,
+    archive: Vec<u8>,
+    simulator: Vec<u8>,
+    copy: Vec<u8>,
+}
+
+impl Files {
+    fn new(setup: Setup, events: &[u8]) -> Files {
+        let file = lay_out(setup, events);
+        let buffer = vec![0; file.len()];
+        Files {
+            setup,
+            events: events.to_vec(),
+            file,
+            archive: buffer.clone(),
+            simulator: buffer.clone(),
+            copy: buffer,
+        }
+    }
+
+    fn archive(&mut self) {
+        let setup = self.setup.map(u32::from);
+        for _ in 0..BATCH {
+            let out = black_box(&mut self.archive);
+            black_box(archive::write_file(setup, black_box(&self.events), out));
+        }
+    }
+
+    fn simulator(&mut self) {
+        for _ in 0..BATCH {
+            let out = black_box(&mut self.simulator);
+            let done = simulator::write_day_file(self.setup, black_box(&self.events), out);
+            let _ = black_box(done);
+        }
+    }
+
+    /// Two plain copies of the file for each call.
+    fn copies(&mut self) {
+        for _ in 0..2 * BATCH {
+            black_box(&mut self.copy).copy_from_slice(black_box(&self.file));
+        }
+    }
+
+    /// Every buffer holds the file.
+    fn agree(&self) -> bool {
+        [&self.archive, &self.simulator, &self.copy]
+            .iter()
+            .all(|buffer| **buffer == self.file)
+    }
+}
+
+/// Both sides' times of writing the largest file, and how the archive's
+/// stands to two copies of the file.
+fn write_cells(kind: &Kind, events: &[u8]) -> (String, String) {
+    let mut files = Files::new(kind.setup, events);
+    let all = [Files::archive, Files::simulator, Files::copies];
+    let [archive, simulator, copies] = best_times(&mut files, all);
+    assert!(files.agree(), "the files differ: run `bench differ`");
+    let unit = 1e-6 * BATCH as f64;
+    let target = format!(
+        "Writing it takes {:.2} µs, copying its bytes twice {:.2} µs: {:.2}.",
+        archive / unit,
+        copies / unit,
+        archive / copies
+    );
+    (Best { archive, simulator }.cells(unit), target)
+}
+
 /// A program on the largest file.
 fn program(path: &str, words: &[&str]) -> io::Result<()> {
     let status = Command::new(path)
@@ -256,7 +337,8 @@ fn program_cells() -> io::Result<String> {
 
 fn print_file() -> io::Result<()> {
     let kind = &KINDS[1];
-    let file = lay_out(kind.setup, &kind.list(MOST_EVENTS));
+    let events = kind.list(MOST_EVENTS);
+    let file = lay_out(kind.setup, &events);
     std::fs::write(LARGEST, &file)?;
     println!(
         "\nThe largest day file (16,370 events, heavy contention), microseconds for the file:\n"
@@ -267,10 +349,13 @@ fn print_file() -> io::Result<()> {
         "| its text, `zevgorim_file_text` and `simulator::file_text` | {} |",
         text_cells(&file)
     );
+    let (cells, target) = write_cells(kind, &events);
+    println!("| writing it, `zevgorim_write_file` and `simulator::write_day_file` | {cells} |");
     println!(
         "| the whole program, `pads` and `simulator run` | {} |",
         program_cells()?
     );
+    println!("\n{target}");
     Ok(())
 }
 

@@ -7,13 +7,13 @@ use simulator::{file_text, journal_text, read_day_file, State};
 use super::difference::{same, same_state, Check};
 use super::lent::Lent;
 use super::Differ;
-use crate::archive::{self, Part, Text};
+use crate::archive::{self, Part, Written};
 use crate::lists::{any_setup, Setup};
 
 const SHORT: u8 = 13;
 
 /// A call that writes a text for a file or a journal.
-type Writer = fn(&[u8], &mut [u8]) -> Text;
+type Writer = fn(&[u8], &mut [u8]) -> Written;
 
 /// A file with a fault at a random place.
 fn damaged(rng: &mut Random, mut file: Vec<u8>) -> Vec<u8> {
@@ -91,11 +91,12 @@ impl Differ {
         self.file(&bytes)
     }
 
-    /// Setup, events and text of any file.
+    /// Setup, events and text of any file, which is written back if accepted.
     pub fn file(&mut self, file: &[u8]) -> Check {
         self.tally.files += 1;
         self.reader(file)
             .and_then(|()| self.texts(archive::file_text, file, &file_text(file)))
+            .and_then(|()| self.write_back(file))
             .map_err(|found| found.replay(file.to_vec()))
     }
 

@@ -1,10 +1,12 @@
 //! Numbers above 255, which no byte of a list has: the calls refuse them with
 //! the numbers of docs/MACHINE.md.
 
+use simulator::day_file::EVENTS_AT;
 use simulator::random::Random;
 use simulator::State;
 
 use super::difference::{same, same_state, Check};
+use super::lent::Lent;
 use super::runs::of;
 use super::Differ;
 use crate::archive::{self, Done};
@@ -22,6 +24,16 @@ fn large(rng: &mut Random) -> u32 {
         2 => u32::MAX - rng.below(256) as u32,
         _ => (rng.draw() as u32).max(256),
     }
+}
+
+/// The numbers of a setup, one or more of them now above 255.
+fn enlarged(rng: &mut Random, setup: Setup) -> [u32; 4] {
+    let mut numbers = setup.map(u32::from);
+    numbers[rng.below(4)] = large(rng);
+    if rng.chance(1, 4) {
+        numbers[rng.below(4)] = large(rng);
+    }
+    numbers
 }
 
 /// The number of a setup's first check that fails; 0 where none of the first
@@ -49,11 +61,7 @@ fn event_answer(state: &State, kind: u32) -> u8 {
 impl Differ {
     /// The setup with one number or more above 255.
     pub fn large_setup(&mut self, setup: Setup) -> Check {
-        let mut numbers = setup.map(u32::from);
-        numbers[self.rng.below(4)] = large(&mut self.rng);
-        if self.rng.chance(1, 4) {
-            numbers[self.rng.below(4)] = large(&mut self.rng);
-        }
+        let numbers = enlarged(&mut self.rng, setup);
         let [n, l, g, b] = numbers;
         let got = archive::setup(n, l, g, b);
         self.tally.large_setups += 1;
@@ -64,6 +72,29 @@ impl Differ {
         )
         .and_then(|()| same_state("a setup with a large number", got.state, &State::BLANK))
         .map_err(|found| found.given("setup", format_args!("{numbers:?}")))
+    }
+
+    /// The day file of a setup with one number or more above 255: nothing is
+    /// written.
+    pub fn large_write(&mut self, setup: Setup, events: &[u8]) -> Check {
+        let numbers = enlarged(&mut self.rng, setup);
+        let room = self.rng.below(2 * (EVENTS_AT + events.len()));
+        let mut out = Lent::new(room, self.rng.byte());
+        let lent = out.clone();
+        let got = archive::write_file(numbers, events, out.lend());
+        self.tally.large_writes += 1;
+        same(
+            "the answer to a large number, and the size",
+            (got.answer, got.size),
+            (setup_answer(numbers), 0),
+        )
+        .and_then(|()| out.same("a file with a large number", &lent))
+        .map_err(|found| {
+            found
+                .given("setup", format_args!("{numbers:?}"))
+                .given_figures("events", events)
+                .given("bytes lent for the file", room)
+        })
     }
 
     /// An event with a large process, a large kind or both, on any state.

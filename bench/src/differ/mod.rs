@@ -8,6 +8,7 @@ mod rolls;
 mod runs;
 mod states;
 mod tally;
+mod writes;
 
 use simulator::cases::{self, shapes};
 use simulator::random::Random;
@@ -42,6 +43,7 @@ fn compare(seed: u64, events: u64) -> Result<Tally, Difference> {
     for case in cases::all(seed, FIRST_FILES) {
         differ.file(&case.file)?;
     }
+    differ.long_writes()?;
     for shape in shapes.into_iter().cycle() {
         if differ.tally.list_events >= events {
             break;
@@ -88,6 +90,7 @@ impl Differ {
         if events.len() <= 2 * SHORT_LIST || self.rng.chance(1, 4) {
             self.files(setup, &events)?;
         }
+        self.writes(setup, &events)?;
         for _ in 0..8 {
             let setup = lists::any_setup(&mut self.rng);
             self.setup(setup)?;

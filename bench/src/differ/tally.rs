@@ -4,6 +4,8 @@ use std::fmt;
 
 /// What an event can answer.
 const EVENT_ANSWERS: [usize; 7] = [0, 6, 7, 8, 9, 12, 15];
+/// What writing a day file can answer.
+const WRITE_ANSWERS: [usize; 9] = [0, 1, 2, 3, 4, 5, 14, 16, 17];
 
 #[derive(Default)]
 pub struct Tally {
@@ -27,10 +29,23 @@ pub struct Tally {
     pub refused_files: u64,
     pub file_answers: u64,
     pub texts: u64,
+    pub writes: u64,
+    pub refused_writes: u64,
+    /// Writes by their answer.
+    pub write_answers: [u64; 18],
+    pub large_writes: u64,
+    pub written_back: u64,
 }
 
 /// What was compared, how often, and how often a part of it.
 type Line = (&'static str, u64, Option<(&'static str, u64)>);
+
+/// Each answer that was given, and how often.
+fn given(answers: &[u64]) -> String {
+    let seen = answers.iter().enumerate().filter(|(_, &n)| n > 0);
+    let words: Vec<String> = seen.map(|(answer, n)| format!("{n} of {answer}")).collect();
+    words.join(", ")
+}
 
 impl Tally {
     /// Adds the events of an accepted list, by its journal.
@@ -50,8 +65,17 @@ impl Tally {
         }
     }
 
+    /// Adds the writing of a day file.
+    pub fn add_write(&mut self, answer: u8) {
+        self.writes += 1;
+        self.refused_writes += u64::from(answer != 0);
+        if let Some(count) = self.write_answers.get_mut(usize::from(answer)) {
+            *count += 1;
+        }
+    }
+
     /// Every kind of comparison.
-    fn lines(&self) -> [Line; 15] {
+    fn lines(&self) -> [Line; 18] {
         let refused = |count| Some(("refused", count));
         let [request, step, release] = self.kinds;
         [
@@ -74,14 +98,14 @@ impl Tally {
             ("day files", self.files, refused(self.refused_files)),
             ("answers of day files alone", self.file_answers, None),
             ("texts in lent buffers", self.texts, None),
+            (
+                "writes of day files",
+                self.writes,
+                refused(self.refused_writes),
+            ),
+            ("writes with a number above 255", self.large_writes, None),
+            ("day files written back", self.written_back, None),
         ]
-    }
-
-    /// Each answer that events had, and how many had it.
-    fn answers(&self) -> String {
-        let seen = self.answers.iter().enumerate().filter(|(_, &n)| n > 0);
-        let words: Vec<String> = seen.map(|(answer, n)| format!("{n} of {answer}")).collect();
-        words.join(", ")
     }
 
     /// What did not come up.
@@ -99,6 +123,11 @@ impl Tally {
                 missing.push(format!("events answered {answer}"));
             }
         }
+        for answer in WRITE_ANSWERS {
+            if self.write_answers[answer] == 0 {
+                missing.push(format!("writes answered {answer}"));
+            }
+        }
         missing
     }
 }
@@ -112,7 +141,8 @@ impl fmt::Display for Tally {
             }
             writeln!(out)?;
         }
-        writeln!(out, "answers to events: {}", self.answers())?;
+        writeln!(out, "answers to events: {}", given(&self.answers))?;
+        writeln!(out, "answers to writes: {}", given(&self.write_answers))?;
         for what in self.missing() {
             writeln!(out, "not compared: {what}")?;
         }
