@@ -55,11 +55,11 @@ headSize = 27
 abbrev pub setupEntry : Entry
 setupEntry = entry 1 23 4
 
--- Entry two: kind 2, offset 27, and the events' length.
+-- Entry two: kind 2, offset 27, an even length that ends exactly at the file's end.
 abbrev pub eventsEntry : ℕ → Entry
 eventsEntry size = entry 2 headSize size
 
--- the bytes of body 2, which ends exactly at the file's end
+-- so the bytes of body 2
 abbrev pub bodySize : List ℕ → ℕ
 bodySize f = length f - headSize
 
@@ -67,7 +67,7 @@ bodySize f = length f - headSize
 abbrev pub longest : ℕ
 longest = 32768
 
--- 10 for the length or bytes 0 to 4, then 11 for an entry; entry two's length is even.
+-- 10 for the length or bytes 0 to 4, then 11 for an entry.
 abbrev pub layoutChecks : List ℕ → List Check
 layoutChecks f =
     check answer.noDayFile (within headSize longest (length f))

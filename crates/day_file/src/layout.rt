@@ -8,13 +8,13 @@ ghost use Rattle.day_file.specs.Layout.{headSize, isMarked, entry, isEnt
 ghost use Rattle.day_file.specs.Layout.{word as Layout·word};
 
 // What a day file begins with.
-pub(crate) const TURN: [u8; 4] = *b"TURN";
+pub const TURN: [u8; 4] = *b"TURN";
 
 // What stands before the events.
-pub(crate) const HEAD_SIZE: usize = 27;
+pub const HEAD_SIZE: usize = 27;
 
 // The bytes that a file has at most.
-pub(crate) const LONGEST: usize = 32768;
+pub const LONGEST: usize = 32768;
 
 fn wide(x: u8) -> u64
     ensures { λ r. ⌜ (r ≡ x) × (r ≤ 255) ⌝ }

@@ -1,4 +1,3 @@
-// The day file: its layout, the reader and the writer. A format, so it keeps document 01's word.
-mod layout;
+// The day file: its layout, and the reader. A format, so it keeps document 01's word.
+pub mod layout;
 pub mod reader;
-pub mod writer;

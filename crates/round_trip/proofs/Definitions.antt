@@ -15,7 +15,7 @@ use Rattle.machine.proofs.Facts.Filled.{Fills, fills-answer, fills-refused, fil
 use Rattle.day_file.specs.Layout.{Bytes, headSize, longest, bodySetup, fileAnswer, readSetup, readEvents}
 use Rattle.day_file.specs.Writer.{fileBytes, writeChecks, writeAnswer, writeFile, writeBuffer}
 use Rattle.day_file.proofs.Accepted as accepted
-use Rattle.day_file.proofs.Writing.{setup-passed, has-setup, even, not-long}
+use Rattle.day_writer.proofs.Writing.{setup-passed, has-setup, even, not-long}
 use Rattle.round_trip.specs.Definitions.{fileWritten, fourNumbers, RoundTrips}
 use Rattle.round_trip.proofs.Laid as laid
 use Rattle.round_trip.proofs.Read.{laid-out}

@@ -17,7 +17,7 @@ use Rattle.day_file.specs.Layout.{isMarked, word, isEntry, headSize, setupEntry
 use Rattle.day_file.specs.Layout.{layoutChecks, layoutAnswer, fileAnswer, readSetup, readEvents}
 use Rattle.day_file.specs.Writer.{headBytes, fileBytes}
 use Rattle.day_file.proofs.Accepted as accepted
-use Rattle.day_file.proofs.Writing.{file-length}
+use Rattle.day_writer.proofs.Writing.{file-length}
 use Rattle.round_trip.proofs.Words.{joined}
 
 module _ (c : Setup) (events : List ℕ) where

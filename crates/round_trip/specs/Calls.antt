@@ -9,7 +9,7 @@ use Rattle.machine.specs.declared.Done.{Done}
 use Rattle.machine.specs.declared.Written.{Written}
 use Rattle.day_file.proofs.reader.read_setup.Reads as read-setup-reads
 use Rattle.day_file.proofs.reader.read_events.Reads as read-events-reads
-use Rattle.day_file.proofs.writer.write_file.Reads as write-file-reads
+use Rattle.day_writer.proofs.write_file.Reads as write-file-reads
 
 -- `write_file(n, l, g, b, events, out)`: the references that it was lent, what it gave, and the references after it
 pub record WriteCall (n l g b : ℕ) : Type 0 where

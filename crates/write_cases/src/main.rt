@@ -5,7 +5,6 @@
 use cases::image;
 use cases::input;
 use cases::line;
-use day_file::writer;
 
 fn print_numbers(answer: u8, size: usize, figure: u64) -> bool {
     let mut text = [0u8; 64];
@@ -36,7 +35,7 @@ fn make_call(events: &mut [u8], out: &mut [u8]) -> bool {
     if io::read_full(0, &mut events[0..given]) < given {
         return false;
     }
-    let written = writer::write_file(
+    let written = day_writer::write_file(
         head[0],
         head[1],
         head[2],

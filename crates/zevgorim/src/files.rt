@@ -2,7 +2,6 @@
 use crate::Part;
 use crate::narrow;
 use day_file::reader;
-use day_file::writer;
 use machine::Done;
 use machine::Written;
 use machine::answer;
@@ -58,7 +57,7 @@ pub extern "C" fn zevgorim_write_file(
     ensures { λ r. ⌜ (r ≡ writeFile (plain n l g b) (now (events .entry)) (now (out .entry)))
         × (now (out .exit) ≡ writeBuffer (plain n l g b) (now (events .entry)) (now (out .entry))) ⌝ }
 {
-    writer::write_file(
+    day_writer::write_file(
         narrow::narrowed(n),
         narrow::narrowed(l),
         narrow::narrowed(g),

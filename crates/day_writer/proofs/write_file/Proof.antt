@@ -6,11 +6,11 @@ use Rattle.machine.proofs.Rules.{_≡_, _∙_, sym, refl, arith, needs}
 use Rattle.machine.proofs.Facts.Filled.{fills-refused, fills-accepted}
 use Rattle.machine.specs.Setup.{plain}
 use Rattle.machine.specs.declared.Setup.{Setup}
 use Rattle.day_file.specs.Layout.{headSize}
 use Rattle.day_file.specs.Writer.{fileBytes, writeChecks, writeAnswer, writeFile, writeBuffer}
-use Rattle.day_file.proofs.Writing.{has-room, room-behind, file-length, events-behind}
-use Rattle.day_file.proofs.writer.write_file.Statement.{statement}
-use Rattle.day_file.proofs.writer.write_file.Tie as tie
+use Rattle.day_writer.proofs.Writing.{has-room, room-behind, file-length, events-behind}
+use Rattle.day_writer.proofs.write_file.Statement.{statement}
+use Rattle.day_writer.proofs.write_file.Tie as tie
 
 abbrev setup : tie.Start → Setup
 setup s = plain (s .args .n) (s .args .l) (s .args .g) (s .args .b)
@@ -36,6 +36,10 @@ refused c =
     (c .before .write-answer .ensures)
     (c .if1 .taken)
 
+-- the buffer reaches to where the events begin
+reaches : tie.Need-sub-copy
+reaches c = omega (arith, roomy (c .before .before .before .before), c .before .before .put-head .kept .0)
+
 -- the file is there, and then what was there
 filled : tie.Need-returns-2
 unfolding writeAnswer writeFile writeBuffer
@@ -58,9 +62,7 @@ write-file-spec =
     -- the head
     (λ c κs. omega (arith, roomy (c .before)))
     -- the events behind it
-    (λ c. omega (arith, roomy (c .before .before .before .before), c .before .before .put-head .kept .0))
-    (λ c. omega (arith, roomy (c .before .before .before .before), c .before .before .put-head .kept .0))
-    (λ c. search needs)
+    reaches reaches (λ c. search needs)
     (λ c κs. let head = c .before .before .before in
     let a = start (head .before .before) .args in
     room-behind (head .put-head .last .0) (length (a .events .now))

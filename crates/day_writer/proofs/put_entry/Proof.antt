@@ -6,10 +6,10 @@ use lib.ListN.{length-set, set}
 use lib.Seq.{sets}
 use Rattle.machine.proofs.Rules.{_≡_, _∙_, ap, arith, needs}
 use Rattle.machine.proofs.Facts.Lists.{sets-append}
 use Rattle.day_file.specs.Layout.{entry}
 use Rattle.day_file.specs.Writer.{wordBytes, entryBytes}
-use Rattle.day_file.proofs.writer.put_entry.Statement.{statement}
-use Rattle.day_file.proofs.writer.put_entry.Tie as tie
+use Rattle.day_writer.proofs.put_entry.Statement.{statement}
+use Rattle.day_writer.proofs.put_entry.Tie as tie
 
 stored : (o o₁ o₂ : List ℕ) (at kind offset size : ℕ) → o₁ ≡ sets (set o at kind) (at + 1) (wordBytes offset)
     → o₂ ≡ sets o₁ (at + 5) (wordBytes size) → o₂ ≡ sets o at (entryBytes (entry kind offset size))

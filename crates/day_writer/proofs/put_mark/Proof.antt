@@ -1,8 +1,8 @@
 -- `put_mark` meets its contract: five stores in a row are a run of stores. Assumes nothing.
 use lib.ListN.{length-set}
 use Rattle.machine.proofs.Rules.{arith, needs}
-use Rattle.day_file.proofs.writer.put_mark.Statement.{statement}
-use Rattle.day_file.proofs.writer.put_mark.Tie as tie
+use Rattle.day_writer.proofs.put_mark.Statement.{statement}
+use Rattle.day_writer.proofs.put_mark.Tie as tie
 
 pub put-mark-spec : {M : Type 1} → statement M
 put-mark-spec =

@@ -1,7 +1,7 @@
-// The writer of a day file, into a lent buffer.
-use crate::layout::HEAD_SIZE;
-use crate::layout::LONGEST;
-use crate::layout::TURN;
+// The writer of a day file, into a lent buffer: the reader's layout the other way round.
+use day_file::layout::HEAD_SIZE;
+use day_file::layout::LONGEST;
+use day_file::layout::TURN;
 use fresh::limits;
 use machine::Setup;
 use machine::Written;

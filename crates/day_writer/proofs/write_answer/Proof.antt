@@ -3,10 +3,10 @@ use Prim.Native.Nat.{_+_}
 use lib.Dec.{leb}
 use Rattle.machine.proofs.Rules.{_≡_, _∙_, sym, true, false, arith, needs, tests, le-leb, lt-leb}
 use Rattle.machine.specs.Setup.{plain, setupAnswer}
 use Rattle.day_file.specs.Layout.{headSize, longest}
-use Rattle.day_file.proofs.Writing.{setup-refused, setup-passed}
-use Rattle.day_file.proofs.writer.write_answer.Statement.{statement}
-use Rattle.day_file.proofs.writer.write_answer.Tie as tie
+use Rattle.day_writer.proofs.Writing.{setup-refused, setup-passed}
+use Rattle.day_writer.proofs.write_answer.Statement.{statement}
+use Rattle.day_writer.proofs.write_answer.Tie as tie
 
 -- past the setup's checks
 kept : (c : tie.Else1) → let a = c .before .before .args in setupAnswer (plain (a .n) (a .l) (a .g) (a .b)) ≡ 0

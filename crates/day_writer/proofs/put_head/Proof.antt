@@ -5,10 +5,10 @@ use lib.ListN.{length, length-set}
 use lib.Seq.{sets}
 use Rattle.machine.proofs.Rules.{_≡_, _∙_, ap, arith, needs}
 use Rattle.machine.specs.Setup.{plain}
 use Rattle.day_file.specs.Layout.{mark, setupEntry, eventsEntry}
 use Rattle.day_file.specs.Writer.{entryBytes, setupBytes, headBytes}
-use Rattle.day_file.proofs.writer.put_head.Statement.{statement}
-use Rattle.day_file.proofs.writer.put_head.Tie as tie
+use Rattle.day_writer.proofs.put_head.Statement.{statement}
+use Rattle.day_writer.proofs.put_head.Tie as tie
 
 abbrev start : tie.After-slice-known4 → tie.Start
 start c = c .before .before .before .before .before .before .before .before .before .before .before .before .before

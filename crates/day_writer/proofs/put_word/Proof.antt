@@ -3,8 +3,8 @@ use native.Mathlib.Numerals.{add-one}
 use lib.ListN.{length-set}
 use Rattle.machine.proofs.Rules.{arith, needs}
 use Rattle.machine.proofs.Facts.Lists.{add-two, add-three}
-use Rattle.day_file.proofs.writer.put_word.Statement.{statement}
-use Rattle.day_file.proofs.writer.put_word.Tie as tie
+use Rattle.day_writer.proofs.put_word.Statement.{statement}
+use Rattle.day_writer.proofs.put_word.Tie as tie
 
 pub put-word-spec : {M : Type 1} → statement M
 put-word-spec =
