@@ -1,8 +1,8 @@
 // Reads day files from standard input until it ends, each behind its length in four bytes, low byte first. Prints for each a line
 // `case N`, and then what `pads` prints for it. What to compare with, in the file `stdout`, comes from a simulator of other
 // authorship.
-use cases::input;
 use cases::line;
+use day_file::layout;
 use text::file;
 
 // Reads the next file's length. One that no case has, where the input ends.
@@ -11,7 +11,7 @@ fn next_size() -> usize {
     if io::read_full(0, &mut head) < 4 {
         return usize::MAX;
     }
-    input::length(&head, 0)
+    layout::word(&head, 0) as usize
 }
 
 fn print_number(n: u64) -> bool {

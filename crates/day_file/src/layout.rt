@@ -23,7 +23,7 @@ fn wide(x: u8) -> u64
 }
 
 // Four bytes, low byte first.
-fn word(file: &[u8], at: usize) -> u64
+pub fn word(file: &[u8], at: usize) -> u64
     requires { ⌜ at + 4 ≤ length (now file) ⌝ }
     ensures { λ r. ⌜ r ≡ Layout·word (now (file .entry)) at ⌝ }
 {

@@ -5,6 +5,7 @@
 use cases::image;
 use cases::input;
 use cases::line;
+use day_file::layout;
 
 fn print_numbers(answer: u8, size: usize, figure: u64) -> bool {
     let mut text = [0u8; 64];
@@ -20,9 +21,9 @@ fn make_call(events: &mut [u8], out: &mut [u8]) -> bool {
     if io::read_full(0, &mut head) < 16 {
         return false;
     }
-    let size = input::length(&head, 4);
-    let given = input::length(&head, 8);
-    let room = input::length(&head, 12);
+    let size = layout::word(&head, 4) as usize;
+    let given = layout::word(&head, 8) as usize;
+    let room = layout::word(&head, 12) as usize;
     if size > events.len() {
         return false;
     }
