@@ -12,7 +12,8 @@ use Rattle.machine.proofs.Rules.{_≡_, _∙_, sym, ap, refl, true, false, cond
 use Rattle.machine.specs.Answer as answer
 use Rattle.machine.specs.Filled.{writtenOf}
 use Rattle.machine.specs.declared.Written.{Written}
-use Rattle.text.specs.Lent.{given, lentAfter}
+use Rattle.machine.proofs.Facts.Filled.{fills-refused, fills-accepted}
+use Rattle.text.specs.Lent.{textChecks, given, lentAfter}
 use Rattle.machine.proofs.Facts.Lists.{sets-start}
 
 -- what a call promises of the text that it gives, and of the buffer
@@ -23,11 +24,13 @@ module _ (text lent : List ℕ) where
   pub filled : length text ≤ length lent → {o : List ℕ} {r : ℕ} → (r ≡ length text) × (o ≡ sets lent 0 text)
       → Gives text lent (writtenOf answer.accepted r) o
   unfolding given lentAfter
-  filled k p = rw (le-leb (length text) (length lent) k) (ap (writtenOf 0) (p .0), p .1 ∙ sets-start text lent k)
+  filled k p =
+      fills-accepted (textChecks text lent) text lent refl (rw (le-leb (length text) (length lent) k)) (p .0)
+      (p .1 ∙ sets-start text lent k)
 
   pub short : length lent < length text → Gives text lent (writtenOf answer.short 0) lent
   unfolding given lentAfter
-  short k = rw (lt-leb (length text) (length lent) k) (refl, refl)
+  short k = fills-refused (textChecks text lent) text lent (rw (lt-leb (length text) (length lent) k)) (λ e. omega (arith, e))
 
   within : given text lent .size ≤ length (lentAfter text lent)
   unfolding given lentAfter
