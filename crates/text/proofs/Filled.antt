@@ -8,7 +8,7 @@ use Prim.Native.Nat.{ℕ, _≤_, _<_}
 use lib.Dec.{leb}
 use lib.ListN.{length, take, drop, length-append}
 use lib.Seq.{sets, length-take-le}
-use Rattle.machine.proofs.Rules.{_≡_, _∙_, sym, ap, refl, true, false, cond, Bool, arith, le-leb, lt-leb}
+use Rattle.machine.proofs.Rules.{_≡_, _∙_, sym, refl, true, false, cond, Bool, arith, le-leb, lt-leb}
 use Rattle.machine.specs.Answer as answer
 use Rattle.machine.specs.Filled.{writtenOf}
 use Rattle.machine.specs.declared.Written.{Written}
