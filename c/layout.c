@@ -4,14 +4,15 @@
 #include <string.h>
 #include "zevgorim.h"
 
-_Static_assert(sizeof(zevgorim_process) == 5 && offsetof(zevgorim_process, stage) == 0, "process");
+_Static_assert(sizeof(zevgorim_process) == 6 && offsetof(zevgorim_process, stage) == 0, "process");
 _Static_assert(offsetof(zevgorim_process, node) == 1 && offsetof(zevgorim_process, segment) == 2, "process");
 _Static_assert(offsetof(zevgorim_process, name) == 3 && offsetof(zevgorim_process, steps) == 4, "process");
-_Static_assert(sizeof(zevgorim_state) == 470, "state");
+_Static_assert(offsetof(zevgorim_process, returns) == 5, "process");
+_Static_assert(sizeof(zevgorim_state) == 534, "state");
 _Static_assert(offsetof(zevgorim_state, gate) == 4 && offsetof(zevgorim_state, queued) == 5, "gate");
 _Static_assert(offsetof(zevgorim_state, queue) == 6 && offsetof(zevgorim_state, counters) == 70, "queue, counters");
 _Static_assert(offsetof(zevgorim_state, words) == 86 && offsetof(zevgorim_state, process) == 150, "words, processes");
-_Static_assert(sizeof(zevgorim_done) == 471 && offsetof(zevgorim_done, state) == 1, "done");
+_Static_assert(sizeof(zevgorim_done) == 535 && offsetof(zevgorim_done, state) == 1, "done");
 _Static_assert(sizeof(zevgorim_report) == 3 && offsetof(zevgorim_report, free) == 1, "report");
 _Static_assert(sizeof(zevgorim_status) == 3 && offsetof(zevgorim_status, name) == 1, "status");
 _Static_assert(sizeof(zevgorim_written) == 16 && offsetof(zevgorim_written, size) == 8, "written");
@@ -62,6 +63,7 @@ static void check_run(void) {
     is("segment of 1", s.process[1].segment, 1);
     is("name of 1", s.process[1].name, 1);
     is("steps of 1", s.process[1].steps, 2);
+    is("returns of 1", s.process[1].returns, 0);
 
     zevgorim_report report = zevgorim_gate_report(s);
     is("answer of the report", report.answer, 0);
@@ -73,9 +75,28 @@ static void check_run(void) {
     is("answer of the roll", zevgorim_fill_status(s, roll, 5), 0);
     is("stage of the roll", roll[1].stage, ZEVGORIM_WORKING);
     is("name of the roll", roll[1].name, 1);
-    is("steps of the roll", roll[1].steps, 2);
-    is("record past N", roll[4].stage + roll[4].name + roll[4].steps, 3 * 170);
+    is("figure of the roll", roll[1].figure, 2);
+    is("record past N", roll[4].stage + roll[4].name + roll[4].figure, 3 * 170);
     is("answer of a short roll", zevgorim_fill_status(s, roll, 3), ZEVGORIM_SHORT);
+}
+
+/* a process goes left, wins, clears its bit and gives the counter back: the journal and the roll show claim turns and returns together */
+static void check_returns(void) {
+    static const uint8_t events[] = {0, 0, 1, 0, 1, 0, 1, 0, 2, 0, 1, 0, 1, 0};
+    uint8_t journal[28];
+    zevgorim_state s = zevgorim_run(zevgorim_setup(2, 2, 1, 1).state, events, sizeof events, journal, sizeof journal).state;
+    is("steps after the way back", s.process[0].steps, 2);
+    is("returns after the way back", s.process[0].returns, 2);
+    is("figure of the journal", journal[27], 4);
+
+    zevgorim_status roll[2];
+    is("answer of the roll", zevgorim_fill_status(s, roll, 2), 0);
+    is("figure of the roll", roll[0].figure, 4);
+
+    s.process[0].returns = 254;
+    is("answer with a sum of 256", zevgorim_step(s, 0).answer, ZEVGORIM_BROKEN_STATE);
+    s.process[0].returns = 253;
+    is("answer of the gate with a sum of 255", zevgorim_step(s, 0).answer, 0);
 }
 
 static int same_state(zevgorim_state a, zevgorim_state b) {
@@ -200,6 +221,7 @@ static void check_write(void) {
 int main(void) {
     check_fresh();
     check_run();
+    check_returns();
     check_kinds();
     check_large(256);
     check_large(257);

@@ -1,6 +1,6 @@
 /* A box at work: a frame comes, one event is carried out, the state is saved, the reply goes out. Started again, it goes on from the
  * state that it saved. Standard input stands for the radio: a line is a frame, `kind handset`. The reply is the line that pads prints
- * for the event: answer, stage, pad, spent.
+ * for the event: answer, stage, pad, figure (claim turns and return operations).
  *
  * The state is saved before the reply goes out, so that no handset has heard of a pad that the box can forget. A saved state that cannot
  * be trusted stops the box: a fresh one would hand out pads that handsets still hold. */
@@ -96,7 +96,7 @@ static int reply(const zevgorim_done *done, uint32_t handset) {
         const zevgorim_process *process = &done->state.process[handset];
         entry[1] = process->stage;
         entry[2] = process->name;
-        entry[3] = process->steps;
+        entry[3] = (uint8_t)(process->steps + process->returns);
     }
     zevgorim_written text = zevgorim_journal_text(entry, sizeof entry, line, sizeof line);
     return fwrite(line, 1, text.size, stdout) == text.size && fflush(stdout) == 0;

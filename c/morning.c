@@ -34,7 +34,7 @@ static void print_roll(zevgorim_state state, size_t number) {
     printf("after event %zu: %u pads open at the gate, %u handsets queued\n", number, gate.free, gate.queued);
     for (unsigned h = 0; h < state.setup.processes; h++) {
         printf("  handset %u %s", h, does[roll[h].stage]);
-        if (roll[h].stage == ZEVGORIM_WORKING) printf(" pad %u, won in %u turns", roll[h].name, roll[h].steps);
+        if (roll[h].stage == ZEVGORIM_WORKING) printf(" pad %u, won in %u turns", roll[h].name, roll[h].figure);
         puts("");
     }
 }

@@ -14,8 +14,11 @@
  *   - The names [pads] of working processes [holders] are below k and all unlike.
  *   - No process is exhausted [astray].
  *   - If at no moment, at the start or directly after an event, more than m processes were admitted, every name held is below m.
- *   - The number steps [spent] of a process counts its steps [turns] in getname [claiming] since its last accepted request [ask]. Of a
- *     working process it is from h + 1 to h + g.
+ *   - The number steps [spent, the claim figure] of a process counts its steps [turns] in getname [claiming] since its last accepted
+ *     request [ask]. Of a working process it is from h + 1 to h + g.
+ *   - The number returns counts its return operations since then: the bit cleared and each counter given back, but not a level left by
+ *     the right and not the gate. A process in its remainder section [idle] after a full round has steps + returns from h + 2 to
+ *     2h + g + 1. Journal and status records show this sum.
  *   - A process in getname holds a name directly after one of the next h + g steps given to it at the latest, whatever comes between.
  *
  * This, what each call below gives and writes, and that every call ends, is proved of the Rattle source, for every argument that keeps
@@ -105,7 +108,7 @@ enum {
 
 /* Bytes of stack that a call takes below its return address, rounded up. They are measured, not proved: c/stack.c looks how deep a
  * painted stack was written, with the archive as the toolchain compiles it (-O3) and glibc's memcpy and memset, and c/run fails where a
- * call takes more. What the caller's own frame has for the state handed over (470 bytes) and the result (471 bytes) comes on top. */
+ * call takes more. What the caller's own frame has for the state handed over (534 bytes) and the result (535 bytes) comes on top. */
 enum {
     ZEVGORIM_STACK_SETUP = 1024,
     ZEVGORIM_STACK_EVENT = 1280,  /* event, request, step, release, run */
@@ -121,7 +124,8 @@ typedef struct {
     uint8_t node;    /* where it is in the tree, 1 to 2L - 1 */
     uint8_t segment; /* [row] in its leaf, 0 to g - 1 */
     uint8_t name;    /* [pad] 0 to k - 1, or ZEVGORIM_NO_NAME */
-    uint8_t steps;   /* [spent] */
+    uint8_t steps;   /* [spent] its steps in getname since its last request */
+    uint8_t returns; /* its return operations since then; steps + returns is at most 255 */
 } zevgorim_process;
 
 /* What a setup is given. */
@@ -132,7 +136,7 @@ typedef struct {
     uint8_t bits;      /* in a segment, b */
 } zevgorim_setup_numbers;
 
-/* The whole state: 470 bytes without padding, so that it can be copied, compared and stored as bytes. */
+/* The whole state: 534 bytes without padding, so that it can be copied, compared and stored as bytes. */
 typedef struct {
     zevgorim_setup_numbers setup;
     int8_t gate;                  /* gate word A, -64 to k */
@@ -160,7 +164,7 @@ typedef struct {
 typedef struct {
     uint8_t stage;
     uint8_t name;
-    uint8_t steps;
+    uint8_t figure; /* steps + returns of the process */
 } zevgorim_status;
 
 /* A text or a file in a lent buffer. */
@@ -195,8 +199,8 @@ zevgorim_done zevgorim_step(zevgorim_state state, uint32_t process);
 zevgorim_done zevgorim_release(zevgorim_state state, uint32_t process);
 
 /* A list of events of any length, two bytes each: kind, process. A refused event changes no state and the list goes on.
- * The journal takes four bytes for each event: its answer, then stage, name and steps of the process after it; these three are 255 for
- * answers 6, 12 and 15. Bytes past them are untouched.
+ * The journal takes four bytes for each event: its answer, then stage, name and figure (steps + returns) of the process after it; these
+ * three are 255 for answers 6, 12 and 15. Bytes past them are untouched.
  * Refused with 14 for the list, 13 for the journal (shorter than twice the list), 15 for the state: the journal is untouched. */
 zevgorim_done zevgorim_run(zevgorim_state state, const uint8_t *events, size_t events_len, uint8_t *journal, size_t journal_len);
 
@@ -234,8 +238,8 @@ zevgorim_written zevgorim_write_file(uint32_t n, uint32_t l, uint32_t g, uint32_
 /* Texts, as the program pads prints them, in a lent buffer. Bytes past the text are untouched.
  * Refused with 13 when the buffer is shorter than the text: nothing is written and the size is 0. */
 
-/* A line for each four bytes of a journal: answer, stage, name, steps in decimal, 255 as `-`. Fewer than four bytes at the end are left
- * out. 16 bytes for each line are always enough. */
+/* A line for each four bytes of a journal: answer, stage, name, figure in decimal, 255 as `-`. Fewer than four bytes at the end are
+ * left out. 16 bytes for each line are always enough. */
 zevgorim_written zevgorim_journal_text(const uint8_t *journal, size_t journal_len, uint8_t *out, size_t out_len);
 
 /* The lines of a day file's journal, at most 16 bytes for each event. Of a file that zevgorim_file_answer refuses, `refused n` and a line

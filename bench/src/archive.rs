@@ -6,7 +6,7 @@
 use std::mem::{offset_of, size_of, transmute};
 
 /// Length of a state's image.
-pub const IMAGE_BYTES: usize = 470;
+pub const IMAGE_BYTES: usize = 534;
 
 /// One process.
 #[repr(C)]
@@ -17,6 +17,7 @@ pub struct Process {
     pub segment: u8,
     pub name: u8,
     pub steps: u8,
+    pub returns: u8,
 }
 
 /// What a setup is given.
@@ -59,13 +60,13 @@ pub struct Report {
     pub queued: u8,
 }
 
-/// One record of the roll.
+/// One record of the roll: stage, name, and steps and returns together.
 #[repr(C)]
 #[derive(Clone, Copy, PartialEq, Eq, Debug)]
 pub struct Status {
     pub stage: u8,
     pub name: u8,
-    pub steps: u8,
+    pub figure: u8,
 }
 
 /// What a call that fills a lent buffer answers, and how many bytes it wrote.
@@ -85,7 +86,7 @@ pub struct Part {
 }
 
 const _: () = {
-    assert!(size_of::<Process>() == 5);
+    assert!(size_of::<Process>() == 6);
     assert!(size_of::<State>() == IMAGE_BYTES);
     assert!(offset_of!(State, gate) == 4);
     assert!(offset_of!(State, queued) == 5);
@@ -93,7 +94,7 @@ const _: () = {
     assert!(offset_of!(State, counters) == 70);
     assert!(offset_of!(State, words) == 86);
     assert!(offset_of!(State, process) == 150);
-    assert!(size_of::<Done>() == 471);
+    assert!(size_of::<Done>() == 535);
     assert!(offset_of!(Done, state) == 1);
     assert!(size_of::<Report>() == 3);
     assert!(size_of::<Written>() == 16);
@@ -157,14 +158,14 @@ impl State {
     /// The state that an image describes, in range or not.
     #[inline]
     pub fn from_image(image: [u8; IMAGE_BYTES]) -> State {
-        // SAFETY: both are 470 bytes, and any byte is a number of the state.
+        // SAFETY: both are 534 bytes, and any byte is a number of the state.
         unsafe { transmute(image) }
     }
 
     /// The image of the state.
     #[inline]
     pub fn to_image(self) -> [u8; IMAGE_BYTES] {
-        // SAFETY: both are 470 bytes, and a state has no padding.
+        // SAFETY: both are 534 bytes, and a state has no padding.
         unsafe { transmute(self) }
     }
 }

@@ -2,8 +2,11 @@
 
 use crate::state::{Process, State, COUNTERS, MAX};
 
+/// Length of a process in a state image.
+const PROCESS_BYTES: usize = 6;
+
 /// Length of a state image.
-pub const IMAGE_BYTES: usize = 6 + MAX + COUNTERS + MAX + 5 * MAX;
+pub const IMAGE_BYTES: usize = 6 + MAX + COUNTERS + MAX + PROCESS_BYTES * MAX;
 
 const QUEUE: usize = 6;
 const COUNTER: usize = QUEUE + MAX;
@@ -28,7 +31,7 @@ impl State {
         for (process, bytes) in state
             .processes
             .iter_mut()
-            .zip(image[PROCESS..].chunks_exact(5))
+            .zip(image[PROCESS..].chunks_exact(PROCESS_BYTES))
         {
             *process = Process {
                 stage: bytes[0],
@@ -36,6 +39,7 @@ impl State {
                 segment: bytes[2],
                 name: bytes[3],
                 steps: bytes[4],
+                returns: bytes[5],
             };
         }
         state
@@ -56,8 +60,11 @@ impl State {
         image[QUEUE..COUNTER].copy_from_slice(&self.queue);
         image[COUNTER..SEGMENT].copy_from_slice(&self.counters);
         image[SEGMENT..PROCESS].copy_from_slice(&self.segments);
-        for (bytes, p) in image[PROCESS..].chunks_exact_mut(5).zip(&self.processes) {
-            bytes.copy_from_slice(&[p.stage, p.node, p.segment, p.name, p.steps]);
+        for (bytes, p) in image[PROCESS..]
+            .chunks_exact_mut(PROCESS_BYTES)
+            .zip(&self.processes)
+        {
+            bytes.copy_from_slice(&[p.stage, p.node, p.segment, p.name, p.steps, p.returns]);
         }
         image
     }

@@ -1,10 +1,11 @@
 //! An independent simulator of document 01's machine, written from documents
-//! 01 and 02 alone. Of document 02's requests, a is built here.
+//! 01 and 02 alone. Of document 02's requests, a and b are built here.
 //!
 //! The code uses the field's terms: process (handset), name (pad), segment
-//! (row of a leaf), steps (spent), request, step and release (ask, turn and
-//! finish), getname and putname (claim and return). Formats, commands and
-//! output keep the document's words.
+//! (row of a leaf), steps (spent, or claim turns), returns (return
+//! operations), cost (the sum of both), request, step and release (ask, turn
+//! and finish), getname and putname (claim and return). Formats, commands
+//! and output keep the document's words.
 
 pub mod answer;
 pub mod calls;

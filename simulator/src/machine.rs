@@ -4,7 +4,7 @@ use crate::answer::{
     ACCEPTED, BROKEN_STATE, BUSY, KIND, NOT_MOVING, NO_NAME_HELD, ODD, SHORT, STRANGER,
 };
 use crate::operations::{bounded_decrement, clr_bit, set_first_zero};
-use crate::state::{stage, Process, State, MAX, NO_NAME};
+use crate::state::{stage, Process, State, MAX, MOST_COST, NO_NAME};
 
 /// Kinds of event.
 pub mod kind {
@@ -44,15 +44,15 @@ impl State {
         ACCEPTED
     }
 
-    /// Answer, stage, name and steps; for answers 12, 6 and 15 the last
-    /// three are 255.
+    /// Answer, stage, name and cost; for answers 12, 6 and 15 the last three
+    /// are 255.
     #[inline]
     fn journal_entry(&self, answer: u8, process: u8) -> [u8; 4] {
         if matches!(answer, KIND | STRANGER | BROKEN_STATE) {
             return [answer, 255, 255, 255];
         }
         let p = &self.processes[usize::from(process)];
-        [answer, p.stage, p.name, p.steps]
+        [answer, p.stage, p.name, p.shown_cost()]
     }
 
     /// One event on a state known to be in range.
@@ -131,10 +131,11 @@ impl State {
         ACCEPTED
     }
 
-    /// Every getname step raises the steps, so at 255 each is refused.
+    /// Every getname step raises the steps, so each is refused where the
+    /// cost is the highest.
     fn step_getname(&mut self, p: usize) -> u8 {
         let process = &mut self.processes[p];
-        if process.steps == u8::MAX {
+        if process.cost() >= MOST_COST {
             return BROKEN_STATE;
         }
         process.steps += 1;
@@ -165,35 +166,50 @@ impl State {
     }
 
     fn step_putname(&mut self, p: usize) -> u8 {
-        let process = &mut self.processes[p];
+        let process = &self.processes[p];
         if process.name != NO_NAME {
-            let word = &mut self.segments[usize::from(process.name / self.b)];
-            clr_bit(word, process.name % self.b);
-            process.name = NO_NAME;
-            return ACCEPTED;
-        }
-        if process.node > 1 {
-            self.climb(p)
-        } else {
+            self.clear_name(p)
+        } else if process.node == 1 {
             self.leave_gate(p)
+        } else if process.node.is_multiple_of(2) {
+            self.climb_from_left(p)
+        } else {
+            self.processes[p].node /= 2;
+            ACCEPTED
         }
     }
 
-    /// Goes up one level and gives the counter back if it came by the left.
-    fn climb(&mut self, p: usize) -> u8 {
-        let node = self.processes[p].node;
-        let parent = usize::from(node / 2);
-        if node.is_multiple_of(2) {
-            if self.counters[parent] >= self.fresh_counter(parent) {
-                return BROKEN_STATE;
-            }
-            self.counters[parent] += 1;
+    /// Clears the name's bit, which counts as a return.
+    fn clear_name(&mut self, p: usize) -> u8 {
+        let process = &mut self.processes[p];
+        if process.cost() >= MOST_COST {
+            return BROKEN_STATE;
         }
-        self.processes[p].node = node / 2;
+        let word = &mut self.segments[usize::from(process.name / self.b)];
+        clr_bit(word, process.name % self.b);
+        process.name = NO_NAME;
+        process.returns += 1;
         ACCEPTED
     }
 
-    /// Lets the queue's head in and goes back to the remainder.
+    /// Goes up one level and gives the counter back, which counts as a
+    /// return. A level left by the right gives nothing back and does not
+    /// count.
+    fn climb_from_left(&mut self, p: usize) -> u8 {
+        let parent = usize::from(self.processes[p].node / 2);
+        let highest = self.fresh_counter(parent);
+        let process = &mut self.processes[p];
+        if process.cost() >= MOST_COST || self.counters[parent] >= highest {
+            return BROKEN_STATE;
+        }
+        self.counters[parent] += 1;
+        process.node /= 2;
+        process.returns += 1;
+        ACCEPTED
+    }
+
+    /// Lets the queue's head in and goes back to the remainder. The gate
+    /// does not count; the cost is kept.
     fn leave_gate(&mut self, p: usize) -> u8 {
         if self.gate >= self.names() as i8 {
             return BROKEN_STATE;

@@ -1,7 +1,8 @@
-//! Document 01's ranges. Places that N, L and g leave unused are not read;
-//! the queue is checked in all its places.
+//! Document 01's ranges, and the one that request b of document 02 adds.
+//! Places that N, L and g leave unused are not read; the queue is checked in
+//! all its places.
 
-use crate::state::{check_setup, stage, Process, State, MAX, NO_NAME};
+use crate::state::{check_setup, stage, Process, State, MAX, MOST_COST, NO_NAME};
 
 impl State {
     /// Whether every number of the state is within its range.
@@ -51,5 +52,6 @@ impl State {
             && p.node < 2 * self.l
             && p.segment < self.g
             && (p.name < k || p.name == NO_NAME)
+            && p.cost() <= MOST_COST
     }
 }

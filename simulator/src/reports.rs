@@ -18,7 +18,8 @@ pub struct GateReport {
 pub struct Status {
     pub stage: u8,
     pub name: u8,
-    pub steps: u8,
+    /// Steps and returns together.
+    pub cost: u8,
 }
 
 impl State {
@@ -49,7 +50,7 @@ impl State {
             *record = Status {
                 stage: p.stage,
                 name: p.name,
-                steps: p.steps,
+                cost: p.shown_cost(),
             };
         }
         ACCEPTED

@@ -5,10 +5,12 @@
 //! that is long enough; the roll is filled from the state that it gives
 //! back, which is the lent one where the list is refused.
 
+use crate::calls::costs::{set_cost, LAST, PAST};
 use crate::calls::reached::{accepted_event, accepted_pair, busy_list, fresh, mid_run, SETUPS};
 use crate::calls::{broken, chance, ends, Records};
 use crate::cases::chance::setup;
 use crate::cases::shapes::lively_list;
+use crate::cases::ways_back;
 use crate::machine::kind::{RELEASE, REQUEST, STEP};
 use crate::random::Random;
 use crate::state::{stage, State};
@@ -31,6 +33,16 @@ const LONE_SETUPS: [[u8; 4]; 2] = [[1, 1, 1, 1], [1, 4, 2, 2]];
 /// Besides the main setups, fresh states with N above k: a tree whose k is
 /// not small, and the most processes.
 const CROWDED_SETUPS: [[u8; 4]; 2] = [[14, 4, 1, 2], [64, 1, 2, 1]];
+
+/// For each number of leaves, as many processes as names, and few enough for
+/// all of them to go back in one list.
+pub(crate) const BACK_SETUPS: [[u8; 4]; 5] = [
+    [2, 1, 2, 1],
+    [4, 2, 2, 1],
+    [8, 4, 2, 1],
+    [16, 8, 2, 1],
+    [16, 16, 1, 1],
+];
 
 /// The only process of the setup, holding a name.
 fn lone_worker(setup: [u8; 4]) -> State {
@@ -146,6 +158,50 @@ fn broken_states(records: &mut Records, good: &State, turn: usize) {
     }
 }
 
+/// Costs past the end of their range, for the first, a middle and the last
+/// process.
+fn broken_costs(records: &mut Records, good: &State) {
+    let pair = accepted_pair(good, 1);
+    for (turn, cost) in PAST.into_iter().enumerate() {
+        for third in 0..3 {
+            let mut state = good.clone();
+            let process = third * (usize::from(good.n) - 1) / 2;
+            set_cost(&mut state.processes[process], cost);
+            let room = [good.n, good.n - 1, MOST_ROOM][(turn + third) % 3];
+            let events = [&[][..], &pair][(turn + third) % 2];
+            records.roll(&state, events, room);
+        }
+    }
+}
+
+/// Every cost at the end of its range.
+fn highest_costs(records: &mut Records, rng: &mut Random, good: &State) {
+    let mut state = good.clone();
+    for process in 0..usize::from(good.n) {
+        set_cost(&mut state.processes[process], LAST[process % LAST.len()]);
+    }
+    records.roll(&state, &[], state.n);
+    records.roll(&state, &short_list(rng, &state), MOST_ROOM);
+}
+
+/// All hold a name; in the list all go back, and every second one requests
+/// again.
+fn ways_back(records: &mut Records, rng: &mut Random) {
+    for setup in BACK_SETUPS {
+        let mut maker = ways_back::maker(rng, setup);
+        ways_back::claim_all(&mut maker);
+        let state = maker.state.clone();
+        maker.events.clear();
+        for process in 0..state.n {
+            ways_back::go_back(&mut maker, process, |_| ());
+        }
+        for process in (1..state.n).step_by(2) {
+            maker.push(REQUEST, process);
+        }
+        records.roll(&state, &maker.events, state.n);
+    }
+}
+
 /// A state whose process 0 is about to leave the gate and let the queue's
 /// only process in.
 fn leaving(setup: [u8; 4]) -> State {
@@ -162,9 +218,12 @@ fn leaving(setup: [u8; 4]) -> State {
 pub(crate) fn mendable() -> Vec<(State, Vec<u8>)> {
     let setup = [7, 4, 2, 2];
     let [mut node, mut segment, mut name] = [fresh(setup), fresh(setup), fresh(setup)];
+    let [mut cost, mut highest] = [fresh(setup), fresh(setup)];
     node.processes[3].node = 0;
     segment.processes[3].segment = segment.g;
     name.processes[3].name = name.names();
+    set_cost(&mut cost.processes[3], PAST[0]);
+    set_cost(&mut highest.processes[3], PAST[3]);
     let [mut gate, mut counter] = [fresh(setup), fresh(setup)];
     gate.gate += 1;
     counter.counters[1] += 1;
@@ -175,6 +234,8 @@ pub(crate) fn mendable() -> Vec<(State, Vec<u8>)> {
         (node, vec![REQUEST, 3]),
         (segment, vec![REQUEST, 3]),
         (name, vec![REQUEST, 3]),
+        (cost, vec![REQUEST, 3]),
+        (highest, vec![REQUEST, 3, STEP, 3]),
         (gate, vec![REQUEST, 0, STEP, 0]),
         (counter, vec![REQUEST, 0, STEP, 0, STEP, 0]),
         (low_gate, vec![STEP, 0]),
@@ -200,9 +261,16 @@ pub fn fixed(records: &mut Records, rng: &mut Random) {
     for (turn, state) in main.iter().enumerate() {
         broken_states(records, state, turn);
     }
+    for state in [&main[0], &main[2]] {
+        broken_costs(records, state);
+    }
     for (state, events) in mendable() {
         records.roll(&state, &events, state.n);
     }
+    for state in &main {
+        highest_costs(records, rng, state);
+    }
+    ways_back(records, rng);
 }
 
 /// Mostly N itself or a little more.

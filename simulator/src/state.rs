@@ -8,6 +8,8 @@ pub const MAX: usize = 64;
 pub const COUNTERS: usize = 16;
 /// The name of a process that has none.
 pub const NO_NAME: u8 = 255;
+/// The highest cost of a process in range.
+pub const MOST_COST: u16 = 255;
 
 /// Stages of a process.
 pub mod stage {
@@ -36,8 +38,11 @@ pub struct Process {
     pub segment: u8,
     /// Name held, or 255 (document 01: pad).
     pub name: u8,
-    /// Getname steps taken (document 01: spent).
+    /// Getname steps taken (document 01: spent; document 02: claim turns).
     pub steps: u8,
+    /// Bits cleared and counters given back since the last request
+    /// (document 02, request b: return operations).
+    pub returns: u8,
 }
 
 impl Process {
@@ -48,6 +53,7 @@ impl Process {
         segment: 0,
         name: 0,
         steps: 0,
+        returns: 0,
     };
     /// As an accepted setup leaves it.
     pub const FRESH: Process = Process {
@@ -56,7 +62,20 @@ impl Process {
         segment: 0,
         name: NO_NAME,
         steps: 0,
+        returns: 0,
     };
+
+    /// Steps and returns together, which journal, roll and program show.
+    #[inline]
+    pub fn cost(&self) -> u16 {
+        u16::from(self.steps) + u16::from(self.returns)
+    }
+
+    /// The cost as it is shown. Right for processes in range.
+    #[inline]
+    pub fn shown_cost(&self) -> u8 {
+        self.cost() as u8
+    }
 }
 
 /// The whole state, in the order of its image.

@@ -57,7 +57,7 @@ pub fn first_difference(got: &[u8], expected: &[u8]) -> usize {
 
 /// What stands at a place of a state's image.
 fn place(at: usize) -> String {
-    let fields = ["stage", "node", "segment", "name", "steps"];
+    let fields = ["stage", "node", "segment", "name", "steps", "returns"];
     let heads = ["N", "L", "g", "b", "the gate word", "the queue's length"];
     match at {
         0..=5 => heads[at].to_string(),

@@ -17,11 +17,11 @@ fn got(state: &State, room: usize) -> (u8, Vec<[u8; 3]>) {
     let untouched = archive::Status {
         stage: UNTOUCHED,
         name: UNTOUCHED,
-        steps: UNTOUCHED,
+        figure: UNTOUCHED,
     };
     let mut records = vec![untouched; room + GUARD];
     let answer = archive::fill_status(of(state), &mut records[..room]);
-    let bytes = records.iter().map(|r| [r.stage, r.name, r.steps]);
+    let bytes = records.iter().map(|r| [r.stage, r.name, r.figure]);
     (answer, bytes.collect())
 }
 
@@ -30,11 +30,11 @@ fn expected(state: &State, room: usize) -> (u8, Vec<[u8; 3]>) {
     let untouched = simulator::Status {
         stage: UNTOUCHED,
         name: UNTOUCHED,
-        steps: UNTOUCHED,
+        cost: UNTOUCHED,
     };
     let mut records = vec![untouched; room + GUARD];
     let answer = state.fill_roll(&mut records[..room]);
-    let bytes = records.iter().map(|r| [r.stage, r.name, r.steps]);
+    let bytes = records.iter().map(|r| [r.stage, r.name, r.cost]);
     (answer, bytes.collect())
 }
 

@@ -26,8 +26,8 @@ fn place(rng: &mut Random, state: &State) -> usize {
         4 => 6 + rng.below(64),
         5 => 70 + rng.below(16),
         6 => 86 + rng.below(64),
-        7 => 150 + rng.below(5 * 64),
-        _ => 150 + rng.below(5 * n),
+        7 => 150 + rng.below(6 * 64),
+        _ => 150 + rng.below(6 * n),
     }
 }
 
@@ -57,6 +57,18 @@ fn changed(rng: &mut Random, state: &State) -> State {
     State::from_image(&image)
 }
 
+/// The state with the steps and returns of a process together about 255.
+fn summed(rng: &mut Random, state: &State) -> State {
+    let mut state = state.clone();
+    let sum = 254 + rng.below(4);
+    let least = sum.saturating_sub(255);
+    let steps = least + rng.below(sum.min(255) - least + 1);
+    let process = &mut state.processes[rng.below(usize::from(state.n))];
+    process.steps = steps as u8;
+    process.returns = (sum - steps) as u8;
+    state
+}
+
 impl Differ {
     /// Hand-made states about a reached one, and others at random.
     pub fn hand_made(&mut self, reached: &State) -> Check {
@@ -70,6 +82,12 @@ impl Differ {
             self.state(&any, &any)?;
             let state = changed(&mut self.rng, &any);
             self.state(&any, &state)?;
+        }
+        for from in [reached.clone(), chance::state(&mut self.rng)] {
+            let state = summed(&mut self.rng, &from);
+            self.tally.sums += 1;
+            self.tally.broken_sums += u64::from(!state.in_range());
+            self.state(&from, &state)?;
         }
         if self.rng.chance(1, 8) {
             let states = broken::states(reached);

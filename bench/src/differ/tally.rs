@@ -23,6 +23,9 @@ pub struct Tally {
     pub answers: [u64; 16],
     pub states: u64,
     pub broken_states: u64,
+    /// States with steps and returns of a process together about 255.
+    pub sums: u64,
+    pub broken_sums: u64,
     pub reports: u64,
     pub rolls: u64,
     pub files: u64,
@@ -75,7 +78,7 @@ impl Tally {
     }
 
     /// Every kind of comparison.
-    fn lines(&self) -> [Line; 18] {
+    fn lines(&self) -> [Line; 19] {
         let refused = |count| Some(("refused", count));
         let [request, step, release] = self.kinds;
         [
@@ -92,6 +95,11 @@ impl Tally {
                 "hand-made states",
                 self.states,
                 Some(("broken", self.broken_states)),
+            ),
+            (
+                "of these with a sum about 255",
+                self.sums,
+                Some(("broken", self.broken_sums)),
             ),
             ("gate reports", self.reports, None),
             ("rolls", self.rolls, None),

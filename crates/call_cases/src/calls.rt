@@ -79,8 +79,8 @@ fn report_call(state: State) -> bool {
 // Reads a record, makes its call and prints its line. False where the input ends, within a record too, and where the number is
 // no call's.
 pub(crate) fn next() -> bool {
-    let mut image = [0u8; 470];
-    if io::read_full(0, &mut image) < 470 {
+    let mut image = [0u8; 534];
+    if io::read_full(0, &mut image) < 534 {
         return false;
     }
     let mut call = [0u8; 1];

@@ -1,5 +1,5 @@
--- A state as 470 bytes, one for each number, in the order of its fields: the queue from byte 6 on, the counters from 70, the words from
--- 86, and the processes from 150, five bytes each; the gate word in two's complement. And the figure that shows a state on a line.
+-- A state as 534 bytes, one for each number, in the order of its fields: the queue from byte 6 on, the counters from 70, the words from
+-- 86, and the processes from 150, six bytes each; the gate word in two's complement. And the figure that shows a state on a line.
 use mathlib.Core.List.{List, [], _∷_, _++_}
 use Prim.Native.Nat.{ℕ, _+_, _*_, _%_}
 use lib.ListN.{getD}
@@ -16,11 +16,12 @@ byteAt image i = getD image i 0
 abbrev pub processOf : List ℕ → ℕ → Process
 processOf image p =
     record {
-      stage = byteAt image (150 + 5 * p);
-      node = byteAt image (150 + 5 * p + 1);
-      segment = byteAt image (150 + 5 * p + 2);
-      name = byteAt image (150 + 5 * p + 3);
-      steps = byteAt image (150 + 5 * p + 4);
+      stage = byteAt image (150 + 6 * p);
+      node = byteAt image (150 + 6 * p + 1);
+      segment = byteAt image (150 + 6 * p + 2);
+      name = byteAt image (150 + 6 * p + 3);
+      steps = byteAt image (150 + 6 * p + 4);
+      returns = byteAt image (150 + 6 * p + 5);
     }
 
 -- so many bytes from a place on
@@ -41,7 +42,7 @@ stateOf image =
 
 -- a process as bytes, and one process after another
 abbrev pub processBytes : Process → List ℕ
-processBytes h = h .stage ∷ h .node ∷ h .segment ∷ h .name ∷ h .steps ∷ []
+processBytes h = h .stage ∷ h .node ∷ h .segment ∷ h .name ∷ h .steps ∷ h .returns ∷ []
 
 unfoldable pub processesBytes : List Process → List ℕ
 processesBytes [] = []

@@ -1,4 +1,4 @@
-// A state from 470 bytes, one for each number in the order of its fields, and the figure that shows a state or bytes on a line.
+// A state from 534 bytes, one for each number in the order of its fields, and the figure that shows a state or bytes on a line.
 use machine::Process;
 use machine::Setup;
 use machine::State;
@@ -31,8 +31,8 @@ fn unsigned(a: i8) -> u8
 }
 
 // Fills bytes with the image's from a place on.
-fn load(image: &[u8; 470], at: usize, bytes: &mut [u8])
-    requires { ⌜ at + length (now bytes) ≤ 470 ⌝ }
+fn load(image: &[u8; 534], at: usize, bytes: &mut [u8])
+    requires { ⌜ at + length (now bytes) ≤ 534 ⌝ }
     ensures { λ r. ⌜ now (bytes .exit) ≡ bytesFrom (now (image .entry)) at (length (now (bytes .entry))) ⌝ }
 {
     let mut i = 0;
@@ -43,22 +43,23 @@ fn load(image: &[u8; 470], at: usize, bytes: &mut [u8])
 }
 
 // Process p of the image.
-fn load_process(image: &[u8; 470], p: usize) -> Process
+fn load_process(image: &[u8; 534], p: usize) -> Process
     requires { ⌜ p < 64 ⌝ }
     ensures { λ r. ⌜ r ≡ processOf (now (image .entry)) p ⌝ }
 {
-    let at = 150 + 5 * p;
+    let at = 150 + 6 * p;
     Process {
         stage: image[at],
         node: image[at + 1],
         segment: image[at + 2],
         name: image[at + 3],
         steps: image[at + 4],
+        returns: image[at + 5],
     }
 }
 
 // The image's processes.
-fn load_processes(image: &[u8; 470]) -> [Process; 64]
+fn load_processes(image: &[u8; 534]) -> [Process; 64]
     ensures { λ r. ⌜ r ≡ tabulate 64 (processOf (now (image .entry))) ⌝ }
 {
     let mut process = [load_process(image, 0); 64];
@@ -71,7 +72,7 @@ fn load_processes(image: &[u8; 470]) -> [Process; 64]
 }
 
 // The state of an image.
-pub fn state_of(image: &[u8; 470]) -> State
+pub fn state_of(image: &[u8; 534]) -> State
     ensures { λ r. ⌜ r ≡ stateOf (now (image .entry)) ⌝ }
 {
     let mut queue = [0u8; 64];
@@ -131,7 +132,7 @@ fn mix_process(d: u64, h: Process) -> u64
     requires { ⌜ d < 65521 ⌝ }
     ensures { λ r. ⌜ (r ≡ digestFrom d (processBytes h)) × (r < 65521) ⌝ }
 {
-    let bytes = [h.stage, h.node, h.segment, h.name, h.steps];
+    let bytes = [h.stage, h.node, h.segment, h.name, h.steps, h.returns];
     mix_bytes(d, &bytes)
 }
 

@@ -21,6 +21,7 @@ fn no_process() -> Process
         segment: 0,
         name: 0,
         steps: 0,
+        returns: 0,
     }
 }
 
@@ -34,6 +35,7 @@ pub fn fresh_process() -> Process
         segment: 0,
         name: NO_NAME,
         steps: 0,
+        returns: 0,
     }
 }
 

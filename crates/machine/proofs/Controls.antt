@@ -17,6 +17,7 @@ controls =
       state-first = refl;
       refusals = refl;
       turns = refl;
+      uncounted-turns = refl;
       right-back = refl;
       round-trip = refl;
       again = refl;
@@ -31,6 +32,7 @@ controls =
       beyond = refl;
       report = refl;
       status = refl;
+      status-sum = refl;
       status-state = refl;
       status-short = (refl, refl);
     }

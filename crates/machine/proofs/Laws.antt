@@ -20,7 +20,7 @@ use Rattle.machine.proofs.Laws.Room.Gate.{enter-room, await-room}
 use Rattle.machine.proofs.Laws.Room.Getname.{getname-room}
 use Rattle.machine.proofs.Laws.Room.Putname.{putname-room}
 use Rattle.machine.proofs.Laws.Setup.{setup-answers, setup-refused, setup-accepted}
-use Rattle.machine.proofs.Laws.Steps.{steps-reset, head-leaves}
+use Rattle.machine.proofs.Laws.Steps.{steps-reset, returns-reset, head-leaves}
 use Rattle.machine.proofs.Laws.Unread.{event-alike}
 use Rattle.machine.proofs.Ranges.{ranges-of}
 use Rattle.machine.proofs.Sized.{fresh-sized}
@@ -58,6 +58,7 @@ laws =
       unused-words = unused-word;
       unread = event-alike;
       request-resets = steps-reset;
+      request-resets-returns = returns-reset;
       head-first = head-leaves;
       enter-15 = λ s p e l. enter-room s p (ranges-of s e) l;
       await-15 = λ s p e l. await-room s p (ranges-of s e) l;

@@ -3,7 +3,7 @@
 --     Own            the cases, from the gate word and the record before the event
 --     Became         the record that an event left is one of them
 --     move-became    every move is
---     getname-is     a getname step, by what it does
+--     getname-is, claimed-returns    a getname step, by what it does; it counts no return operation
 -- Assumes nothing.
 use Prim.Native.Nat.{ℕ, _/_, _%_, _≤_, _<_}
 use lib.Dec.{eqb, ltb}
@@ -15,11 +15,12 @@ use Rattle.machine.specs.Gate.{above0, inQueue, headGone, enter, await, 
 use Rattle.machine.specs.Getname.{claimed, side, outcome, segmentOf, descend, probe, getnameStep}
 use Rattle.machine.specs.Kind.{request, step, release}
 use Rattle.machine.specs.Operations.{setFirstZero, boundedDecrement}
-use Rattle.machine.specs.Putname.{giveBack, climb, putnameStep}
+use Rattle.machine.specs.Putname.{returned, giveBack, climb, putnameStep}
 use Rattle.machine.specs.Stage.{remainder, entry, waiting, getname, working, putname, exhausted}
 use Rattle.machine.specs.State.{none, noProcess, freshProcess, withStage, withNode, withSegment, withName}
-use Rattle.machine.specs.State.{processAt, counterAt, wordAt, update}
+use Rattle.machine.specs.State.{processAt, counterAt, wordAt}
 use Rattle.machine.specs.declared.ClaimStep.{ClaimStep}
+use Rattle.machine.specs.declared.ClaimStep.the-variants.{Left, Right, Won, NextSegment, Exhausted}
 use Rattle.machine.specs.declared.Process.{Process}
 use Rattle.machine.specs.declared.State.{State}
 use Rattle.machine.proofs.Facts.Tests.{by-cond}
@@ -33,11 +34,20 @@ pub data Own (gate : ℤ) (h : Process) : ℕ → Process → Type 0 where
   waits : h .stage ≡ waiting → Own gate h step h
   steps : h .stage ≡ getname → (k : ClaimStep) → Own gate h step (claimed k h)
   ends : h .stage ≡ working → Own gate h release (withStage putname h)
-  gives : h .stage ≡ putname → h .name ≢ none → Own gate h step (withName none h)
-  climbs-left : h .stage ≡ putname → h .name ≡ none → 1 < h .node → h .node % 2 ≡ 0 → Own gate h step (withNode (h .node / 2) h)
+  gives : h .stage ≡ putname → h .name ≢ none → Own gate h step (returned (withName none h))
+  climbs-left : h .stage ≡ putname → h .name ≡ none → 1 < h .node → h .node % 2 ≡ 0
+      → Own gate h step (returned (withNode (h .node / 2) h))
   climbs-right : h .stage ≡ putname → h .name ≡ none → 1 < h .node → h .node % 2 ≢ 0 → Own gate h step (withNode (h .node / 2) h)
   leaves : h .stage ≡ putname → h .name ≡ none → h .node ≤ 1 → Own gate h step (withStage remainder (withSegment 0 h))
   remains : h .stage ≡ exhausted → Own gate h step h
+
+-- whatever a getname step does, return operations stay
+pub claimed-returns : (k : ClaimStep) (h : Process) → claimed k h .returns ≡ h .returns
+claimed-returns (Left v) h = refl
+claimed-returns (Right v) h = refl
+claimed-returns (Won m) h = refl
+claimed-returns (NextSegment i) h = refl
+claimed-returns Exhausted h = refl
 
 pub record Became (s t : State) (p kind : ℕ) : Type 0 where
   pub now : Process
@@ -86,8 +96,8 @@ module _ {s : State} {p : ℕ} (v : Valid s) (known : p < s .setup .processes) w
   unfolding climb
   climb-became e n l =
       let u : ℕ = h .node / 2 in
-      by-cond (λ (t : State). To step (update p (withNode u) t)) (eqb (h .node % 2) 0)
-      (λ i. record { now = withNode u h; by = climbs-left e n l (eqb-true _ 0 i); is = own-stored _ })
+      by-cond (To step) (eqb (h .node % 2) 0)
+      (λ i. record { now = returned (withNode u h); by = climbs-left e n l (eqb-true _ 0 i); is = own-stored _ })
       (λ i. record { now = withNode u h; by = climbs-right e n l (eqb-false _ 0 i); is = own-stored _ })
 
   return-became : h .stage ≡ putname → To step (putnameStep s p)
@@ -103,7 +113,7 @@ module _ {s : State} {p : ℕ} (v : Valid s) (known : p < s .setup .processes) w
         by = leaves e (eqb-true _ _ n) (ltb-false _ _ l);
         is = own-stored _;
       }))
-      (λ n. record { now = withName none h; by = gives e (eqb-false _ _ n); is = own-stored _ })
+      (λ n. record { now = returned (withName none h); by = gives e (eqb-false _ _ n); is = own-stored _ })
 
   pub move-became : {kind : ℕ} {t : State} → Move s p kind t → Became s t p kind
   move-became (requests e) = record { now = withStage entry freshProcess; by = begins e; is = own-stored _ }

@@ -13,7 +13,7 @@ use Rattle.machine.specs.Below.{allBelow}
 use Rattle.machine.specs.Check.{allOf}
 use Rattle.machine.specs.Setup.{names, within, isLeaves, setupChecks, setupAnswer}
 use Rattle.machine.specs.Stage.{exhausted}
-use Rattle.machine.specs.State.{none, processAt, counterAt, wordAt, freshCounter}
+use Rattle.machine.specs.State.{none, figure, processAt, counterAt, wordAt, freshCounter}
 use Rattle.machine.specs.Range.{gateInRange, placeTest, counterTest, wordTest, processTests}
 use Rattle.machine.specs.Range.{processTest, entryTests, rangeTests, inRange, ProcessRanges}
 use Rattle.machine.specs.declared.Process.{Process}
@@ -108,7 +108,7 @@ module _ (c : Setup) (h : Process) where
         node = ltb-true (h .node) (2 * c .leaves) (t 2);
         segment = ltb-true (h .segment) (c .segments) (t 3);
         name = name-of (names c) (h .name) (ltb (h .name) (names c)) refl (t 4);
-        steps = leb-true (h .steps) 255 (t 5);
+        shown = leb-true (figure h) 255 (t 5);
       }
 
   process-in : ProcessRanges c h → processTest c h ≡ true
@@ -118,7 +118,7 @@ module _ (c : Setup) (h : Process) where
       (both (lt-ltb (h .node) (2 * c .leaves) (k .node))
       (both (lt-ltb (h .segment) (c .segments) (k .segment))
       (both (name-in (names c) (h .name) (eqb (h .name) none) refl (k .name))
-      (both (le-leb (h .steps) 255 (k .steps)) refl)))))
+      (both (le-leb (figure h) 255 (k .shown)) refl)))))
 
 module _ (n m : ℕ) (q : List ℕ) where
   queue-of : leb m 64 ≡ true → allBelow 64 (placeTest n m q) ≡ true → QueueRanges n m q

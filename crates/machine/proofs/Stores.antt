@@ -1,5 +1,5 @@
 -- A state in range stays so when one of its parts changes to a value in range: place by place.
---     fresh-process, new-stage, new-node, new-name           a process whose numbers are in range
+--     fresh-process, new-stage, new-node, new-name, new-returns    a process whose numbers are in range
 --     store-process, store-counter, store-word, set-gate     one number or record stored
 --     join-queue, advance-queue                              one more at the queue's end; its head gone
 -- Assumes nothing.
@@ -15,7 +15,7 @@ use Rattle.machine.specs.Gate.{joined, movedUp, headGone}
 use Rattle.machine.specs.Range.{gateInRange, ProcessRanges}
 use Rattle.machine.specs.Setup.{names}
 use Rattle.machine.specs.Stage.{exhausted}
-use Rattle.machine.specs.State.{none, noProcess, freshProcess, withStage, withNode, withName, processAt}
+use Rattle.machine.specs.State.{none, noProcess, freshProcess, withStage, withNode, withName, withReturns, processAt}
 use Rattle.machine.specs.State.{withProcess, withCounter, withWord, withGate, withQueue, rebuilt, freshCounter}
 use Rattle.machine.specs.declared.Process.{Process}
 use Rattle.machine.specs.declared.Setup.{Setup}
@@ -33,21 +33,25 @@ fresh-process {c} k =
       node = omega (arith, leaves-low (c .leaves) (k .leaves));
       segment = k .g1;
       name = λ d. absurd (d refl);
-      steps = omega arith;
+      shown = omega arith;
     }
 
 pub new-stage : {c : Setup} {h : Process} (n : ℕ) → n ≤ exhausted → ProcessRanges c h → ProcessRanges c (withStage n h)
 new-stage n e k =
-    record { stage = e; node1 = k .node1; node = k .node; segment = k .segment; name = k .name; steps = k .steps }
+    record { stage = e; node1 = k .node1; node = k .node; segment = k .segment; name = k .name; shown = k .shown }
 
 pub new-node : {c : Setup} {h : Process} (v : ℕ) → 1 ≤ v → v < 2 * c .leaves → ProcessRanges c h → ProcessRanges c (withNode v h)
 new-node v low high k =
-    record { stage = k .stage; node1 = low; node = high; segment = k .segment; name = k .name; steps = k .steps }
+    record { stage = k .stage; node1 = low; node = high; segment = k .segment; name = k .name; shown = k .shown }
 
 pub new-name : {c : Setup} {h : Process} (m : ℕ) → ((m ≡ none → ⊥) → m < names c) → ProcessRanges c h
     → ProcessRanges c (withName m h)
 new-name m e k =
-    record { stage = k .stage; node1 = k .node1; node = k .node; segment = k .segment; name = e; steps = k .steps }
+    record { stage = k .stage; node1 = k .node1; node = k .node; segment = k .segment; name = e; shown = k .shown }
+
+pub new-returns : {c : Setup} {h : Process} (n : ℕ) → h .steps + n ≤ 255 → ProcessRanges c h → ProcessRanges c (withReturns n h)
+new-returns n e k =
+    record { stage = k .stage; node1 = k .node1; node = k .node; segment = k .segment; name = k .name; shown = e }
 
 module _ (s : State) (k : Ranges s) where
   abbrev c : Setup

@@ -15,8 +15,9 @@ use Rattle.machine.specs.Range.{inRange}
 use Rattle.machine.specs.Reports.{gateReport, statusAnswer, statusRecords}
 use Rattle.machine.specs.Setup.{plain}
 use Rattle.machine.specs.Runs.{request, step, release, line}
-use Rattle.machine.specs.State.{done, none, freshProcess, withStage, withNode, withSegment, withName, withSteps, processAt}
-use Rattle.machine.specs.State.{counterAt, withGate, withQueue, withCounter, withWord, withProcess, update, fresh, blank, setup}
+use Rattle.machine.specs.State.{done, none, freshProcess, withStage, withNode, withSegment, withName, withSteps, withReturns}
+use Rattle.machine.specs.State.{processAt, counterAt, withGate, withQueue, withCounter, withWord, withProcess, update}
+use Rattle.machine.specs.State.{fresh, blank, setup}
 use Rattle.machine.specs.declared.Process.{Process}
 use Rattle.machine.specs.declared.State.{State}
 use Rattle.machine.specs.declared.Status.{Status}
@@ -47,6 +48,10 @@ queueing =
 abbrev pub full : State
 full = withWord 0 1 (withWord 1 1 (update 0 (λ h. withStage 3 (withSegment 1 h)) (fresh (plain 2 1 2 1))))
 
+-- a process with so many getname steps and return operations
+abbrev pub spent : ℕ → ℕ → Process → Process
+spent steps returns h = withReturns returns (withSteps steps h)
+
 -- states with a number outside its range, at each end that a range has
 abbrev pub broken : List State
 broken =
@@ -72,16 +77,20 @@ broken =
     ∷ update 1 (withSegment 1) pair
     ∷ update 1 (withName 2) pair
     ∷ update 1 (withName 254) pair
-    ∷ update 1 (withSteps 256) pair
+    ∷ update 1 (spent 256 0) pair
+    ∷ update 1 (spent 255 1) pair
+    ∷ update 1 (spent 1 255) pair
+    ∷ update 1 (spent 128 128) pair
+    ∷ update 1 (spent 255 255) pair
     ∷ blank
     ∷ []
 
 -- 9 in every place of a process, and of a status record
 abbrev pub nines : Process
-nines = withStage 9 (withNode 9 (withSegment 9 (withName 9 (withSteps 9 freshProcess))))
+nines = withStage 9 (withNode 9 (withSegment 9 (withName 9 (spent 9 9 freshProcess))))
 
 abbrev pub noted : Status
-noted = record { stage = 9; name = 9; steps = 9 }
+noted = record { stage = 9; name = 9; figure = 9 }
 
 -- each number at an end of its range, and any number where nothing is used
 abbrev pub whole : List State
@@ -94,24 +103,36 @@ whole =
     ∷ withQueue 64 (replicate 64 1) pair
     ∷ withCounter 1 0 pair
     ∷ withWord 1 1 pair
-    ∷ update 1 (λ h. withStage 6 (withNode 3 (withName 1 (withSteps 255 h)))) pair
+    ∷ update 1 (λ h. withStage 6 (withNode 3 (withName 1 (spent 255 0 h)))) pair
+    ∷ update 1 (spent 0 255) pair
+    ∷ update 1 (spent 127 128) pair
     ∷ withCounter 0 255 (withCounter 2 255 (withWord 2 255 (withProcess 2 nines pair)))
     ∷ []
 
--- states in range whose next turn of process 0 would leave one: the gate word at -64, the queue full, the steps at 255,
--- the counter at its fresh value, the gate word at k
+-- states in range whose next turn of process 0 would leave one: the gate word at -64, the queue full; the figure at 255 for a claim at a
+-- node and at a leaf, a bit clear and a counter given back; the counter at its fresh value, the gate word at k
 abbrev pub edges : List State
 edges =
     withGate (negsuc 63) (update 0 (withStage 1) pair)
     ∷ withGate (pos 0) (withQueue 64 (replicate 64 1) (update 0 (withStage 1) pair))
-    ∷ update 0 (λ h. withStage 3 (withSteps 255 h)) pair
+    ∷ update 0 (λ h. withStage 3 (spent 255 0 h)) pair
+    ∷ update 0 (λ h. withStage 3 (withNode 2 (spent 200 55 h))) pair
+    ∷ update 0 (λ h. withStage 5 (withNode 2 (withName 0 (spent 0 255 h)))) pair
+    ∷ withCounter 1 0 (update 0 (λ h. withStage 5 (withNode 2 (spent 55 200 h))) pair)
     ∷ update 0 (λ h. withStage 5 (withNode 2 h)) pair
     ∷ update 0 (withStage 5) pair
     ∷ []
 
+-- states in range with the figure at 255, where the next turn of process 0 counts nothing: a level left by the right, and the gate
+abbrev pub uncounted : List State
+uncounted =
+    update 0 (λ h. withStage 5 (withNode 3 (spent 0 255 h))) pair
+    ∷ withGate (pos 1) (update 0 (λ h. withStage 5 (spent 255 0 h)) pair)
+    ∷ []
+
 -- the numbers of a process
 abbrev pub numbers : Process → List ℕ
-numbers h = h .stage ∷ h .node ∷ h .segment ∷ h .name ∷ h .steps ∷ []
+numbers h = h .stage ∷ h .node ∷ h .segment ∷ h .name ∷ h .steps ∷ h .returns ∷ []
 
 pub record Controls : Type 0 where
   -- setup checks 1 to 5 in that order: each of these is bad in every later way too
@@ -122,29 +143,32 @@ pub record Controls : Type 0 where
   pub lowest : setFirstZero 3 0 ≡ record { answer = 0; word = 1 }
   -- counters k / 2^(d+1), by node
   pub counters : fresh (plain 64 16 2 2) .counters ≡ 0 ∷ 32 ∷ 16 ∷ 16 ∷ 8 ∷ 8 ∷ 8 ∷ 8 ∷ 4 ∷ 4 ∷ 4 ∷ 4 ∷ 4 ∷ 4 ∷ 4 ∷ 4 ∷ []
-  -- fresh: 0, 1, 0, 255, 0; and 0 where the setup leaves a place unused
-  pub fresh-processes : map numbers (take 3 (pair .process)) ≡ (0 ∷ 1 ∷ 0 ∷ 255 ∷ 0 ∷ []) ∷ (0 ∷ 1 ∷ 0 ∷ 255 ∷ 0 ∷ []) ∷ replicate 5 0 ∷ []
+  -- fresh: 0, 1, 0, 255, 0, 0; and 0 where the setup leaves a place unused
+  pub fresh-processes : map numbers (take 3 (pair .process))
+      ≡ (0 ∷ 1 ∷ 0 ∷ 255 ∷ 0 ∷ 0 ∷ []) ∷ (0 ∷ 1 ∷ 0 ∷ 255 ∷ 0 ∷ 0 ∷ []) ∷ replicate 6 0 ∷ []
   pub fresh-unused : (pair .counters ≡ 0 ∷ 1 ∷ replicate 14 0) × (pair .words ≡ replicate 64 0) × (pair .queue ≡ replicate 64 0)
   -- each range, its ends, and unused places
-  pub out-of-range : map inRange broken ≡ replicate 24 false
-  pub at-the-ends : map inRange whole ≡ replicate 10 true
+  pub out-of-range : map inRange broken ≡ replicate 28 false
+  pub at-the-ends : map inRange whole ≡ replicate 12 true
   -- an event: 15 for the state, 12, 6, then 7, 8 or 9
   pub state-first : event blank 3 9 ≡ done 15 blank
   pub refusals : journal pair (eventsOf ((3 ∷ 2 ∷ []) ++ step 2 ++ step 0 ++ release 0 ++ request 0 ++ request 0))
       ≡ line 12 255 255 255 ++ line 6 255 255 255 ++ line 8 0 none 0 ++ line 9 0 none 0 ++ line 0 1 none 0 ++ line 7 1 none 0
   -- then 15 for the turn: the state stays
   pub turns : map (λ (s : State). event s 1 0) edges ≡ map (done 15) edges
-  -- the right leaf's process gives no counter back, the left one's does; after the round only the steps tell of it
+  -- a turn that counts nothing is accepted with a figure of 255
+  pub uncounted-turns : map (λ (s : State). event s 1 0 .answer) uncounted ≡ 0 ∷ 0 ∷ []
+  -- the right leaf's process gives no counter back, the left one's does; after the round only steps and return operations tell of it
   pub right-back : counterAt (after pair (take 12 round)) 1 ≡ 0
-  pub round-trip : after pair round ≡ update 0 (withSteps 2) (update 1 (withSteps 2) pair)
-  -- a second request counts from 0 again
+  pub round-trip : after pair round ≡ update 0 (spent 2 2) (update 1 (spent 2 1) pair)
+  -- a second request counts both from 0 again
   pub again : processAt (after pair (round ++ eventsOf (request 0))) 0 ≡ withStage 1 freshProcess
   -- the queue is served from its head: 2 stays in it and 1 goes on
   pub queue : journal single queueing
       ≡ line 0 1 none 0 ++ line 0 3 none 0 ++ line 0 4 0 1
       ++ line 0 1 none 0 ++ line 0 2 none 0
       ++ line 0 1 none 0 ++ line 0 2 none 0
-      ++ line 0 5 0 1 ++ line 0 5 none 1 ++ line 0 0 none 1
+      ++ line 0 5 0 1 ++ line 0 5 none 2 ++ line 0 0 none 2
       ++ line 0 2 none 0 ++ line 0 3 none 0
   -- admitted at the start and after each of those events: 1 still waits, out of the queue, when 0 has left
   pub admitted-counts : tabulate 13 (λ n. admitted (after single (take n queueing))) ≡ 0 ∷ 0 ∷ replicate 11 1
@@ -166,6 +190,9 @@ pub record Controls : Type 0 where
       ∷ []
   -- the status records: 15, 13; records from N on are untouched, and a refused list writes nothing
   pub status : statusRecords (after pair (take 4 round)) (replicate 3 noted)
-      ≡ record { stage = 4; name = 0; steps = 2 } ∷ record { stage = 0; name = none; steps = 0 } ∷ noted ∷ []
+      ≡ record { stage = 4; name = 0; figure = 2 } ∷ record { stage = 0; name = none; figure = 0 } ∷ noted ∷ []
+  -- they show the sum of steps and return operations
+  pub status-sum : statusRecords (after pair round) (noted ∷ noted ∷ [])
+      ≡ record { stage = 0; name = none; figure = 4 } ∷ record { stage = 0; name = none; figure = 3 } ∷ []
   pub status-state : statusAnswer blank [] ≡ 15
   pub status-short : (statusAnswer pair (noted ∷ []) ≡ 13) × (statusRecords pair (noted ∷ []) ≡ noted ∷ [])

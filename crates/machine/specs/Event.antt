@@ -19,7 +19,8 @@ use Rattle.machine.specs.declared.Done.{Done}
 abbrev pub refused : ℕ → State → ℕ → Done
 refused a s p = done a s
 
--- Ask, only when idle: stage 1, node 1, segment 0, name 255, steps 0. That is a fresh process in stage 1.
+-- Ask, only when idle: stage 1, node 1, segment 0, name 255, steps 0, and return operations 0 (document 02, b: "at each ask"). That is a
+-- fresh process in stage 1.
 unfoldable pub request : State → ℕ → Done
 request s p =
     checked (check answer.busy (eqb (processAt s p .stage) remainder) ∷ []) (λ a. done a s)

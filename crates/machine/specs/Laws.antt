@@ -62,10 +62,11 @@ pub record Laws : Type 0 where
   pub unused-words : (s : State) (kind p r : ℕ) → s .setup .leaves * s .setup .segments ≤ r → wordAt (event s kind p .state) r ≡ wordAt s r
   -- nor is such a place read: two states that differ there alone get one answer, and differ there alone afterwards
   pub unread : {s t : State} → Alike s t → (kind p : ℕ) → Same (event s kind p) (event t kind p)
-  -- an accepted request counts steps from 0 again; the queue's head leaves and the rest move up
+  -- an accepted request counts steps and return operations from 0 again; the queue's head leaves and the rest move up
   pub request-resets : (s : State) (p : ℕ) → Sized s → event s 0 p .answer ≡ 0 → processAt (event s 0 p .state) p .steps ≡ 0
+  pub request-resets-returns : (s : State) (p : ℕ) → Sized s → event s 0 p .answer ≡ 0 → processAt (event s 0 p .state) p .returns ≡ 0
   pub head-first : (s : State) (i : ℕ) → 0 < s .queued → getD (headGone s .queue) i 0 ≡ getD (s .queue) (suc i) 0
-  -- a turn would leave a range where the gate word, the queue, the steps or a counter has no room, and nowhere else
+  -- a turn would leave a range where the gate word, the queue, the figure or a counter has no room, and nowhere else
   pub enter-15 : (s : State) (p : ℕ) → inRange s ≡ true → p < s .setup .processes → inRange (enter s p) ≡ enterRoom s
   pub await-15 : (s : State) (p : ℕ) → inRange s ≡ true → p < s .setup .processes → inRange (await s p) ≡ true
   pub getname-15 : (s : State) (p : ℕ) → Sized s → inRange s ≡ true → p < s .setup .processes → inRange (getnameStep s p) ≡ getnameRoom s p

@@ -8,7 +8,7 @@ use Rattle.machine.specs.Answer as answer
 use Rattle.machine.specs.Check.{Check, check, checked}
 use Rattle.machine.specs.Event.{event}
 use Rattle.machine.specs.Range.{inRange}
-use Rattle.machine.specs.State.{done, processAt}
+use Rattle.machine.specs.State.{done, figure, processAt}
 use Rattle.machine.specs.declared.Process.{Process}
 use Rattle.machine.specs.declared.State.{State}
 use Rattle.machine.specs.declared.Done.{Done}
@@ -36,13 +36,13 @@ unfoldable pub answers : State → List Event → List ℕ
 answers s [] = []
 answers s (e ∷ es) = eventDone s e .answer ∷ answers (eventDone s e .state) es
 
--- The journal takes four bytes for each event: answer, then stage, name and steps after it. For answers 12, 6 and 15 those
--- three bytes are 255.
+-- The journal takes four bytes for each event: answer, then stage, name and figure after it (document 02, b: the sum, where document
+-- 01 has spent). For answers 12, 6 and 15 those three bytes are 255.
 abbrev pub showsNone : ℕ → Bool
 showsNone a = eqb a answer.kind || eqb a answer.stranger || eqb a answer.brokenState
 
 abbrev pub entryBytes : ℕ → Process → List ℕ
-entryBytes a h = cond (showsNone a) (a ∷ 255 ∷ 255 ∷ 255 ∷ []) (a ∷ h .stage ∷ h .name ∷ h .steps ∷ [])
+entryBytes a h = cond (showsNone a) (a ∷ 255 ∷ 255 ∷ 255 ∷ []) (a ∷ h .stage ∷ h .name ∷ figure h ∷ [])
 
 unfoldable pub entryOf : State → Event → List ℕ
 entryOf s e = entryBytes (eventDone s e .answer) (processAt (eventDone s e .state) (e .process))

@@ -11,7 +11,7 @@ use Rattle.machine.specs.Answer.{accepted}
 use Rattle.machine.specs.Check.{allOf}
 use Rattle.machine.specs.Setup.{names, setupAnswer}
 use Rattle.machine.specs.Stage.{exhausted}
-use Rattle.machine.specs.State.{none, processAt, counterAt, freshCounter}
+use Rattle.machine.specs.State.{none, figure, processAt, counterAt, freshCounter}
 use Rattle.machine.specs.declared.Process.{Process}
 use Rattle.machine.specs.declared.Setup.{Setup}
 use Rattle.machine.specs.declared.State.{State}
@@ -37,7 +37,8 @@ wordTest c words r = ltb (getD words r 0) (2 ^ c .bits)
 abbrev pub nameTest : ℕ → ℕ → Bool
 nameTest k m = ltb m k || eqb m none
 
--- Stage 0 to 6; node 1 to 2L - 1; segment (row) 0 to g - 1; name; steps (spent) 0 to 255.
+-- Stage 0 to 6; node 1 to 2L - 1; segment (row) 0 to g - 1; name. A sum of claim turns and return operations above 255 is outside its
+-- range (document 02, b).
 abbrev pub processTests : Setup → Process → List Bool
 processTests c h =
     leb (h .stage) exhausted
@@ -45,7 +46,7 @@ processTests c h =
     ∷ ltb (h .node) (2 * c .leaves)
     ∷ ltb (h .segment) (c .segments)
     ∷ nameTest (names c) (h .name)
-    ∷ leb (h .steps) 255
+    ∷ leb (figure h) 255
     ∷ []
 
 abbrev pub processTest : Setup → Process → Bool
@@ -79,4 +80,4 @@ pub record ProcessRanges (c : Setup) (h : Process) : Type 0 where
   pub node : h .node < 2 * c .leaves
   pub segment : h .segment < c .segments
   pub name : (h .name ≡ none → ⊥) → h .name < names c
-  pub steps : h .steps ≤ 255
+  pub shown : figure h ≤ 255

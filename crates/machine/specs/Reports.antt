@@ -7,6 +7,7 @@ use lib.ListN.{length, take, drop}
 use Rattle.machine.specs.Answer as answer
 use Rattle.machine.specs.Check.{Check, check, checked}
 use Rattle.machine.specs.Range.{inRange}
+use Rattle.machine.specs.State.{figure}
 use Rattle.machine.specs.declared.Process.{Process}
 use Rattle.machine.specs.declared.Report.{Report}
 use Rattle.machine.specs.declared.State.{State}
@@ -25,7 +26,7 @@ gateReport s =
     (record { answer = answer.accepted; free = positivePart (s .gate); queued = positivePart (negℤ (s .gate)) })
 
 abbrev pub statusOf : Process → Status
-statusOf h = record { stage = h .stage; name = h .name; steps = h .steps }
+statusOf h = record { stage = h .stage; name = h .name; figure = figure h }
 
 -- Roll: 15, 13.
 abbrev pub statusChecks : State → List Status → List Check
@@ -35,8 +36,8 @@ statusChecks s records =
 unfoldable pub statusAnswer : State → List Status → ℕ
 statusAnswer s records = checked (statusChecks s records) (λ a. a) answer.accepted
 
--- One record for each process in rising order, with stage, name and steps; records from N on are untouched. A refused one
--- writes nothing.
+-- One record for each process in rising order, with stage, name and figure (document 02, b: the sum, where document 01 has spent);
+-- records from N on are untouched. A refused one writes nothing.
 unfoldable pub statusRecords : State → List Status → List Status
 statusRecords s records =
     checked (statusChecks s records) (λ a. records)

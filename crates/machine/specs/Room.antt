@@ -5,7 +5,8 @@ use lib.Dec.{eqb, ltb}
 use lib.IntN.{ℤ, pos, negsuc}
 use Rattle.machine.specs.Gate.{above0}
 use Rattle.machine.specs.Setup.{names}
-use Rattle.machine.specs.State.{none, processAt, counterAt, freshCounter}
+use Rattle.machine.specs.State.{none, figure, processAt, counterAt, freshCounter}
+use Rattle.machine.specs.declared.Process.{Process}
 use Rattle.machine.specs.declared.State.{State}
 
 -- A falls by 1 and stays at -64 or above; it rises by 1 and stays at k or below
@@ -21,19 +22,23 @@ canRise k (negsuc n) = true
 abbrev pub enterRoom : State → Bool
 enterRoom s = cond (above0 (s .gate)) true (canFall (s .gate) && ltb (s .queued) 64)
 
--- stage 3: one step more is at most 255
-abbrev pub getnameRoom : State → ℕ → Bool
-getnameRoom s p = ltb (processAt s p .steps) 255
+-- the sum of steps and return operations rises by 1 and stays at 255 or below
+abbrev pub hasRoom : Process → Bool
+hasRoom h = ltb (figure h) 255
 
--- stage 5 above node 1: a counter that rises is below its fresh value
+-- stage 3: one step more
+abbrev pub getnameRoom : State → ℕ → Bool
+getnameRoom s p = hasRoom (processAt s p)
+
+-- stage 5 above node 1: a counter that rises is below its fresh value, and one return operation more has room
 abbrev pub climbRoom : State → ℕ → Bool
 climbRoom s p =
     let u : ℕ = processAt s p .node / 2 in
-    cond (eqb (processAt s p .node % 2) 0) (ltb (counterAt s u) (freshCounter (s .setup) u)) true
+    cond (eqb (processAt s p .node % 2) 0) (ltb (counterAt s u) (freshCounter (s .setup) u) && hasRoom (processAt s p)) true
 
--- stage 5: a name is always given back; a counter must have room, and at node 1 the gate word
+-- stage 5: a name is given back where one return operation more has room; a counter must have room, and at node 1 the gate word
 abbrev pub putnameRoom : State → ℕ → Bool
 putnameRoom s p =
     cond (eqb (processAt s p .name) none)
     (cond (ltb 1 (processAt s p .node)) (climbRoom s p) (canRise (names (s .setup)) (s .gate)))
-    true
+    (hasRoom (processAt s p))

@@ -26,16 +26,16 @@ none = 255
 
 -- what an unused place for a process holds: every number 0
 abbrev pub noProcess : Process
-noProcess = record { stage = 0; node = 0; segment = 0; name = 0; steps = 0 }
+noProcess = record { stage = 0; node = 0; segment = 0; name = 0; steps = 0; returns = 0 }
 
--- For each process, fresh: 0, 1, 0, 255, 0.
+-- For each process, fresh: 0, 1, 0, 255, 0; and return operations, 0 when fresh (document 02, b).
 abbrev pub freshProcess : Process
-freshProcess = record { stage = remainder; node = 1; segment = 0; name = none; steps = 0 }
+freshProcess = record { stage = remainder; node = 1; segment = 0; name = none; steps = 0; returns = 0 }
 
--- a process with other numbers; every setter of one number is made of this
+-- a process with other numbers, its return operations kept; every setter of one of them is made of this
 abbrev pub renumbered : ℕ → ℕ → ℕ → ℕ → ℕ → Process → Process
 renumbered stage node segment name steps h =
-    record { stage = stage; node = node; segment = segment; name = name; steps = steps }
+    record { stage = stage; node = node; segment = segment; name = name; steps = steps; returns = h .returns }
 
 abbrev pub withStage : ℕ → Process → Process
 withStage n h = renumbered n (h .node) (h .segment) (h .name) (h .steps) h
@@ -51,6 +51,15 @@ withName n h = renumbered (h .stage) (h .node) (h .segment) n (h .steps) h
 
 abbrev pub withSteps : ℕ → Process → Process
 withSteps n h = renumbered (h .stage) (h .node) (h .segment) (h .name) n h
+
+-- with another number of return operations
+abbrev pub withReturns : ℕ → Process → Process
+withReturns n h =
+    record { stage = h .stage; node = h .node; segment = h .segment; name = h .name; steps = h .steps; returns = n }
+
+-- What the journal, the roll and the program show: the sum of claim turns and return operations (document 02, b).
+abbrev pub figure : Process → ℕ
+figure h = h .steps + h .returns
 
 -- what stands at a place
 abbrev pub processAt : State → ℕ → Process

@@ -1,4 +1,5 @@
--- Document 01's table of worked orders, P1 to P11; `worked` in proofs/Worked.antt computes each.
+-- Document 01's table of worked orders, P1 to P11; `worked` in proofs/Worked.antt computes each. In P11 lines eight and nine end in 2
+-- (document 02, b).
 use mathlib.Core.Path.{_≡_}
 use mathlib.Core.List.{List, _++_}
 use Prim.Native.Nat.{ℕ}
@@ -56,7 +57,7 @@ pub record Worked : Type 0 where
       ++ line 0 2 none 0
       ++ line 0 2 none 0
       ++ line 0 5 0 1
-      ++ line 0 5 none 1
-      ++ line 0 0 none 1
+      ++ line 0 5 none 2
+      ++ line 0 0 none 2
       ++ line 0 3 none 0
       ++ line 0 4 0 1

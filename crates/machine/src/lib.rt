@@ -1,5 +1,6 @@
 // The records of the machine, document 01's section State. What an event does to them is said in specs/.
 pub mod answer;
+pub mod counts;
 pub mod kind;
 pub mod stage;
 
@@ -15,7 +16,8 @@ pub struct Setup {
     pub bits: u8,
 }
 
-// One process (document 01: handset). `name` (pad) is 255 for none; `steps` counts its getname steps (spent).
+// One process (document 01: handset). `name` (pad) is 255 for none; since its last request, `steps` counts its getname steps (spent, the
+// claim figure) and `returns` its return operations.
 #[repr(C)]
 pub struct Process {
     pub stage: u8,
@@ -23,6 +25,7 @@ pub struct Process {
     pub segment: u8,
     pub name: u8,
     pub steps: u8,
+    pub returns: u8,
 }
 
 // The setup, the gate word with its queue, a counter for each node (place 0 is unused), a word for each segment (document 01: row),
@@ -70,12 +73,12 @@ pub struct Report {
     pub queued: u8,
 }
 
-// One status record (document 01: one line of the roll).
+// One status record (document 01: one line of the roll). `figure` is the sum of the process's getname steps and return operations.
 #[repr(C)]
 pub struct Status {
     pub stage: u8,
     pub name: u8,
-    pub steps: u8,
+    pub figure: u8,
 }
 
 // What a call that fills a lent buffer answers: 0 or the number of a refusal, and how many bytes it wrote.

@@ -10,7 +10,7 @@ use Rattle.machine.specs.Event.{refused, request, release, guarded, stages, sta
 use Rattle.machine.specs.Gate.{above0, among, headGone, enter, await, leave}
 use Rattle.machine.specs.Getname.{segmentOf, descend, probe, getnameStep}
 use Rattle.machine.specs.Putname.{giveBack, climb, putnameStep}
-use Rattle.machine.specs.Room.{canFall, canRise, climbRoom, putnameRoom}
+use Rattle.machine.specs.Room.{canFall, canRise, hasRoom, climbRoom, putnameRoom}
 use Rattle.machine.specs.Setup.{names}
 use Rattle.machine.specs.Stage.{remainder, entry, working, putname}
 use Rattle.machine.specs.State.{done, none, noProcess, freshProcess, withStage, withNode, processAt, counterAt}
@@ -24,9 +24,9 @@ use Rattle.machine.proofs.Laws.Room.Getname.{getname-room}
 use Rattle.machine.proofs.Laws.Room.Putname.{putname-room}
 use Rattle.machine.proofs.Ranges.{Ranges, in-range}
 use Rattle.gate.specs.Moves.{entered, enteredQueue, awaited, departed, departedQueue}
-use Rattle.operations.specs.Moves.{descended, probed, climbed}
+use Rattle.operations.specs.Moves.{descended, probed, givenBack, climbed}
 use Rattle.operations.specs.Places.{getnamePlace, putnamePlace, stagePlaces, stepPlace, kindPlaces, placeOf, doneAt}
-use Rattle.operations.specs.declared.place.Place.the-variants.{Own, Gate, Queue, Parent, Root}
+use Rattle.operations.specs.declared.place.Place.the-variants.{Own, Gate, Queue, Bit, Parent, Root}
 
 module _ (s : State) (z : Sized s) (k : Ranges s) (p : ℕ) (kp : p < s .setup .processes) where
   abbrev h : Process
@@ -76,10 +76,10 @@ module _ (s : State) (z : Sized s) (k : Ranges s) (p : ℕ) (kp : p < s .setup .
   getname-at : guarded getnameStep s p ≡ doneAt (getnamePlace c h) s p
   unfolding guarded doneAt getnameStep descend probe descended probed
   getname-at =
-      rw (getname-room s p k kp (z .process)) (go (ltb (h .node) (s .setup .leaves)) (ltb (h .steps) 255) refl refl)
+      rw (getname-room s p k kp (z .process)) (go (ltb (h .node) (s .setup .leaves)) (hasRoom h) refl refl)
     where
-      go : (below room : Bool) → ltb (h .node) (s .setup .leaves) ≡ below → ltb (h .steps) 255 ≡ room
-          → cond (ltb (h .steps) 255) (done 0 (getnameStep s p)) (done 15 s) ≡ doneAt (getnamePlace c h) s p
+      go : (below room : Bool) → ltb (h .node) (s .setup .leaves) ≡ below → hasRoom h ≡ room
+          → cond (hasRoom h) (done 0 (getnameStep s p)) (done 15 s) ≡ doneAt (getnamePlace c h) s p
       go true true e f = simp (e, f)
       go true false e f = simp (e, f) (ap (done 15) (sym (counter-self (h .node))))
       go false true e f = simp (e, f)
@@ -98,17 +98,26 @@ module _ (s : State) (z : Sized s) (k : Ranges s) (p : ℕ) (kp : p < s .setup .
   climb-at : cond (climbRoom s p) (done 0 (climb s p)) (done 15 s)
       ≡ doneAt (cond (eqb (h .node % 2) 0) (Parent (h .node / 2)) (Own (withNode (h .node / 2) h) 0)) s p
   unfolding doneAt climb climbed
-  climb-at = go (eqb (h .node % 2) 0) (ltb (counterAt s u) (freshCounter c u)) refl refl
+  climb-at = go (eqb (h .node % 2) 0) (ltb (counterAt s u) (freshCounter c u) && hasRoom h) refl refl
     where
       u : ℕ
       u = h .node / 2
 
-      go : (even room : Bool) → eqb (h .node % 2) 0 ≡ even → ltb (counterAt s u) (freshCounter c u) ≡ room
+      go : (even room : Bool) → eqb (h .node % 2) 0 ≡ even → (ltb (counterAt s u) (freshCounter c u) && hasRoom h) ≡ room
           → cond (climbRoom s p) (done 0 (climb s p)) (done 15 s)
           ≡ doneAt (cond (eqb (h .node % 2) 0) (Parent u) (Own (withNode u h) 0)) s p
       go true true e f = simp (e, f)
       go true false e f = simp (e, f) (ap (done 15) (sym (counter-self u)))
       go false room e f = simp e
+
+  give-at : cond (hasRoom h) (done 0 (giveBack s p)) (done 15 s) ≡ doneAt (Bit (h .name / c .bits) (h .name % c .bits)) s p
+  unfolding doneAt giveBack givenBack
+  give-at = go (hasRoom h) refl
+    where
+      go : (room : Bool) → hasRoom h ≡ room
+          → cond (hasRoom h) (done 0 (giveBack s p)) (done 15 s) ≡ doneAt (Bit (h .name / c .bits) (h .name % c .bits)) s p
+      go true e = simp e
+      go false e = simp e (ap (done 15) (sym (word-self (h .name / c .bits))))
 
   putname-at : guarded putnameStep s p ≡ doneAt (putnamePlace c h) s p
   unfolding guarded putnameStep
@@ -118,7 +127,7 @@ module _ (s : State) (z : Sized s) (k : Ranges s) (p : ℕ) (kp : p < s .setup .
           → cond (putnameRoom s p) (done 0 (putnameStep s p)) (done 15 s) ≡ doneAt (putnamePlace c h) s p
       go true true e f = simp (e, f) climb-at
       go true false e f = simp (e, f) leave-at
-      go false up e f = unfold giveBack doneAt in simp e
+      go false up e f = simp e give-at
 
   own-kept : (a : ℕ) → done a s ≡ doneAt (Own h a) s p
   unfolding doneAt

@@ -1,5 +1,6 @@
 -- What the functions' proofs share.
 pub mod Bytes
+pub mod Rooms
 pub mod Stages
 pub mod Segments
 pub mod ByPlace

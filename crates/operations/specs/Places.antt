@@ -10,15 +10,14 @@ use Rattle.machine.specs.Getname.{segmentOf}
 use Rattle.machine.specs.Range.{ProcessRanges}
 use Rattle.machine.specs.Setup.{names, setupAnswer}
 use Rattle.machine.specs.Stage.{remainder, entry, working, putname}
-use Rattle.machine.specs.Operations.{clrBit}
-use Rattle.machine.specs.State.{done, none, freshProcess, withStage, withNode, withName, processAt}
+use Rattle.machine.specs.State.{done, none, freshProcess, withStage, withNode, processAt}
 use Rattle.machine.specs.State.{counterAt, wordAt, withGate, withQueue, withCounter, withWord, withProcess}
 use Rattle.machine.specs.declared.Done.{Done}
 use Rattle.machine.specs.declared.Process.{Process}
 use Rattle.machine.specs.declared.Setup.{Setup}
 use Rattle.machine.specs.declared.State.{State}
 use Rattle.gate.specs.Moves.{entered, enteredQueue, awaited, departed, departedQueue}
-use Rattle.operations.specs.Moves.{descended, probed, climbed}
+use Rattle.operations.specs.Moves.{descended, probed, givenBack, climbed}
 use Rattle.operations.specs.declared.place.Place.{Place}
 use Rattle.operations.specs.declared.place.Place.the-variants.{Own, Gate, Queue, Counter, Segment, Bit, Parent, Root}
 
@@ -79,7 +78,8 @@ doneAt (Segment r) s p =
     let m = probed (s .setup) r (processAt s p) (wordAt s r) in
     done (m .answer) (withProcess p (m .process) (withWord r (m .word) s))
 doneAt (Bit r i) s p =
-    done answer.accepted (withProcess p (withName none (processAt s p)) (withWord r (clrBit (wordAt s r) i) s))
+    let m = givenBack (processAt s p) (wordAt s r) i in
+    done (m .answer) (withProcess p (m .process) (withWord r (m .word) s))
 doneAt (Parent u) s p =
     let m = climbed (s .setup) u (processAt s p) (counterAt s u) in
     done (m .answer) (withProcess p (m .process) (withCounter u (m .word) s))

@@ -4,6 +4,7 @@ use machine::ClaimStep;
 use machine::Process;
 use machine::Setup;
 use machine::answer;
+use machine::counts;
 use machine::stage;
 ghost use mathlib.Core.Path.{_≡_};
 ghost use Prim.Native.Nat.{_+_, _*_, _≤_, _<_};
@@ -82,7 +83,7 @@ pub fn descend(h: Process, c: u8) -> Moved
     requires { ⌜ h .node < 32 ⌝ }
     ensures { λ r. ⌜ r ≡ descended h c ⌝ }
 {
-    if h.steps < 255 {
+    if counts::has_room(h) {
         let op = words::bounded_decrement(c);
         let step = side_of(h.node, op.answer);
         let x = claim(step, h);
@@ -104,7 +105,7 @@ pub fn probe(h: Process, w: u8, r: u8, setup: Setup) -> Moved
     requires { ⌜ Setting setup h × (r < setup .leaves * setup .segments) ⌝ }
     ensures { λ m. ⌜ m ≡ probed setup r h w ⌝ }
 {
-    if h.steps < 255 {
+    if counts::has_room(h) {
         let op = words::set_first_zero(setup.bits, w);
         let step = outcome_of(setup, r, h.segment, op.answer);
         let x = claim(step, h);

@@ -1,4 +1,4 @@
-// Reads a day file from standard input and prints a line for each event (answer, stage, pad, spent), or only `refused n`.
+// Reads a day file from standard input and prints a line for each event (answer, stage, pad, figure), or only `refused n`.
 use libc::STDERR_FILENO;
 use libc::STDIN_FILENO;
 use libc::STDOUT_FILENO;

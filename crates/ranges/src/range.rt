@@ -5,6 +5,7 @@ use machine::Process;
 use machine::Setup;
 use machine::State;
 use machine::answer;
+use machine::counts;
 use machine::stage;
 ghost use mathlib.Core.Path.{_≡_};
 ghost use Prim.Native.Nat.{_-_, _*_, _^_, _≤_};
@@ -130,7 +131,7 @@ fn is_name(k: u8, m: u8) -> bool
     (m as u16 + 1) % 256 <= k as u16
 }
 
-// The numbers of one process. Its steps are a byte, so that they need no test.
+// The numbers of one process. Its steps and return operations are bytes; their sum is to be one, too.
 fn process_in_range(h: Process, setup: Setup) -> bool
     requires { ⌜ setupAnswer setup ≡ 0 ⌝ }
     ensures { λ r. ⌜ r ≡ processTest setup h ⌝ }
@@ -145,6 +146,9 @@ fn process_in_range(h: Process, setup: Setup) -> bool
         return false;
     }
     if h.segment >= setup.segments {
+        return false;
+    }
+    if counts::sum(h) > 255 {
         return false;
     }
     is_name(limits::names_of(setup), h.name)

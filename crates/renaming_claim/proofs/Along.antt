@@ -1,24 +1,26 @@
--- Along a list: a process's steps are its getname steps since its last accepted request, and whoever is in getname wins a name within
--- h + g of its steps. By induction on the list: each getname step adds one, and there are never h + g of them in getname.
---     list-steps    the steps after a list
+-- Along a list: a process's steps are its getname steps since its last accepted request, its returns its return operations since then,
+-- and whoever is in getname wins a name within h + g of its steps. By induction on the list: each of them adds one, and there are never
+-- h + g steps in getname.
+--     list-steps, list-returns    the steps and the returns after a list
 --     list-wins     a name within the steps that are left
 -- Assumes nothing.
 use mathlib.Core.List.{List, [], _∷_}
 use Prim.Native.Nat.{ℕ, suc, _+_, _-_, _≤_}
-use Rattle.machine.proofs.Rules.{_≡_, _∙_, ap, refl, true, false, Bool, ⊎-elim, arith}
+use Rattle.machine.proofs.Rules.{_≡_, _∙_, ap, refl, true, false, cond, Bool, ⊎-elim, arith}
 use Rattle.machine.specs.Below.{indicator as ind}
 use Rattle.machine.specs.Lists.{Event, eventDone, after}
 use Rattle.machine.specs.Setup.{height}
 use Rattle.machine.specs.Stage.{getname}
 use Rattle.machine.proofs.Laws.OnePlace.{setup-unchanged}
-use Rattle.renaming_claim.specs.History.{stepOf, claimSteps, stepsGiven, HoldsWithin}
+use Rattle.renaming_claim.specs.History.{stepOf, requestOf, claimOf, returnOf, sinceRequest, claimSteps, returnOperations}
+use Rattle.renaming_claim.specs.History.{stepsGiven, HoldsWithin}
 use Rattle.renaming_claim.proofs.Implies.{not-exhausted, fewer-steps}
 use Rattle.renaming_claim.proofs.Mover.{Setup, Process, State, processAt, Mover}
 use Rattle.renaming_claim.proofs.Preserved.{event-steady}
-use Rattle.renaming_claim.proofs.Steps.{event-steps, claim-steps, claim-next, claim-waits}
+use Rattle.renaming_claim.proofs.Steps.{event-steps, event-returns, claim-steps, claim-next, claim-waits}
 
 -- a process of a state, with M the number of processes; the most steps that one takes
-abbrev OneOf : State → ℕ → Type 0
+abbrev pub OneOf : State → ℕ → Type 0
 OneOf s p = Mover (s .setup .processes) s p
 
 abbrev mostSteps : Setup → ℕ
@@ -29,19 +31,32 @@ module _ {s : State} {p : ℕ} (m : OneOf s p) (e : Event) where
   setup-same : eventDone s e .state .setup ≡ s .setup
   setup-same = setup-unchanged s (e .kind) (e .process)
 
-  next : OneOf (eventDone s e .state) p
+  pub next : OneOf (eventDone s e .state) p
   next =
       record { sound = event-steady s (m .sound) e; known = omega (arith, m .known, ap (λ (c : Setup). c .processes) setup-same) }
 
   most-same : mostSteps (eventDone s e .state .setup) ≡ mostSteps (s .setup)
   most-same = ap mostSteps setup-same
 
+-- a number of the record that counts, event by event, what a test of History passes
+module _ (f : Process → ℕ) (test : ℕ → State → Event → Bool) (p : ℕ)
+    (counts : (s : State) → OneOf s p → (e : Event)
+    → f (processAt (eventDone s e .state) p)
+    ≡ cond (requestOf p s e) 0 (cond (test p s e) (suc (f (processAt s p))) (f (processAt s p)))) where
+  list-counts : (s : State) → OneOf s p → (es : List Event)
+      → f (processAt (after s es) p) ≡ sinceRequest test p s es (f (processAt s p))
+  unfolding after sinceRequest
+  list-counts s m [] = refl
+  list-counts s m (e ∷ es) =
+      list-counts (eventDone s e .state) (next m e) es ∙ ap (sinceRequest test p (eventDone s e .state) es) (counts s m e)
+
 pub list-steps : (s : State) (p : ℕ) → OneOf s p → (es : List Event)
     → processAt (after s es) p .steps ≡ claimSteps p s es (processAt s p .steps)
-unfolding after claimSteps
-list-steps s p m [] = refl
-list-steps s p m (e ∷ es) =
-    list-steps (eventDone s e .state) p (next m e) es ∙ ap (claimSteps p (eventDone s e .state) es) (event-steps m e)
+list-steps s p = list-counts (λ x. x .steps) claimOf p (λ _ m. event-steps m) s
+
+pub list-returns : (s : State) (p : ℕ) → OneOf s p → (es : List Event)
+    → processAt (after s es) p .returns ≡ returnOperations p s es (processAt s p .returns)
+list-returns s p = list-counts (λ x. x .returns) returnOf p (λ _ m. event-returns m) s
 
 -- what holds within the rest of a list holds within the list, with one step more where its first event is one
 later : {n k : ℕ} {p : ℕ} {fs : List Event} (s : State) (e : Event) → ind (stepOf p e) + n ≤ k

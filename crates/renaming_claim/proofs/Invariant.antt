@@ -51,33 +51,44 @@ pub record HomeAt (node segment name : ℕ) : Type 0 where
   pub flat : segment ≡ 0
   pub nameless : name ≡ none
 
--- In stages 1 and 2 besides: no step taken.
-pub record EnteringAt (node segment name taken : ℕ) : Type 0 where
+-- In stages 1 and 2 besides: no step taken, nothing returned.
+pub record EnteringAt (node segment name taken back : ℕ) : Type 0 where
   pub home : HomeAt node segment name
   pub steps : taken ≡ 0
+  pub returns : back ≡ 0
 
 module _ (c : Setup) where
-  -- In getname: no name, segment 0 above the leaves, steps = depth + segment.
-  pub record ClaimingAt (node segment name taken : ℕ) : Type 0 where
+  -- In getname: no name, segment 0 above the leaves, steps = depth + segment, nothing returned.
+  pub record ClaimingAt (node segment name taken back : ℕ) : Type 0 where
     pub nameless : name ≡ none
     pub flat : node < c .leaves → segment ≡ 0
     pub steps : taken ≡ log2 node + segment
+    pub returns : back ≡ 0
 
-  -- Working: with a name, steps = h + segment + 1.
-  pub record WorkingAt (segment name taken : ℕ) : Type 0 where
+  -- Working: with a name, steps = h + segment + 1, nothing returned.
+  pub record WorkingAt (segment name taken back : ℕ) : Type 0 where
     pub named : name ≢ none
     pub steps : taken ≡ height (c .leaves) + segment + 1
+    pub returns : back ≡ 0
 
-  -- By the stage; putname says no more than every stage, and nobody is exhausted.
-  abbrev pub StageAt : ℕ → ℕ → ℕ → ℕ → ℕ → Type 0
-  StageAt stage node segment name taken =
+  -- In putname: steps of a working process. Nothing returned as long as the name is there; then one operation for its bit and at most
+  -- one for each level climbed, of which there are as many as lie between a leaf and the node.
+  pub record ReturningAt (node name taken back : ℕ) : Type 0 where
+    pub steps : height (c .leaves) + 1 ≤ taken
+    pub named : name ≢ none → back ≡ 0
+    pub least : name ≡ none → 1 ≤ back
+    pub most : name ≡ none → back + log2 node ≤ height (c .leaves) + 1
+
+  -- By the stage; nobody is exhausted.
+  abbrev pub StageAt : ℕ → ℕ → ℕ → ℕ → ℕ → ℕ → Type 0
+  StageAt stage node segment name taken back =
       getD
       (HomeAt node segment name
-      ∷ EnteringAt node segment name taken
-      ∷ EnteringAt node segment name taken
-      ∷ ClaimingAt node segment name taken
-      ∷ WorkingAt segment name taken
-      ∷ Unit {0}
+      ∷ EnteringAt node segment name taken back
+      ∷ EnteringAt node segment name taken back
+      ∷ ClaimingAt node segment name taken back
+      ∷ WorkingAt segment name taken back
+      ∷ ReturningAt node name taken back
       ∷ [])
       stage
       ⊥
@@ -91,33 +102,36 @@ module _ (c : Setup) where
     pub is : name ≡ ((node - c .leaves) * c .segments + segment) * c .bits + mark
 
   -- With a name in any stage: fewer than M names lie below it. In any stage: at most h + g steps.
-  pub record ShapeAt (M stage node segment name taken : ℕ) : Type 0 where
+  pub record ShapeAt (M stage node segment name taken back : ℕ) : Type 0 where
     pub stands : name ≢ none → StandsAt stage node segment name
     pub low : name ≢ none → rank c name < M
     pub most : taken ≤ height (c .leaves) + c .segments
-    pub by : StageAt stage node segment name taken
+    pub by : StageAt stage node segment name taken back
 
   -- the same of a process
   abbrev pub Claiming : Process → Type 0
-  Claiming h = ClaimingAt (h .node) (h .segment) (h .name) (h .steps)
+  Claiming h = ClaimingAt (h .node) (h .segment) (h .name) (h .steps) (h .returns)
 
   abbrev pub Working : Process → Type 0
-  Working h = WorkingAt (h .segment) (h .name) (h .steps)
+  Working h = WorkingAt (h .segment) (h .name) (h .steps) (h .returns)
+
+  abbrev pub Returning : Process → Type 0
+  Returning h = ReturningAt (h .node) (h .name) (h .steps) (h .returns)
 
   abbrev pub ByStage : ℕ → Process → Type 0
-  ByStage stage h = StageAt stage (h .node) (h .segment) (h .name) (h .steps)
+  ByStage stage h = StageAt stage (h .node) (h .segment) (h .name) (h .steps) (h .returns)
 
   abbrev pub Stands : Process → Type 0
   Stands h = StandsAt (h .stage) (h .node) (h .segment) (h .name)
 
   abbrev pub Shape : ℕ → Process → Type 0
-  Shape M h = ShapeAt M (h .stage) (h .node) (h .segment) (h .name) (h .steps)
+  Shape M h = ShapeAt M (h .stage) (h .node) (h .segment) (h .name) (h .steps) (h .returns)
 
 abbrev pub Home : Process → Type 0
 Home h = HomeAt (h .node) (h .segment) (h .name)
 
 abbrev pub Entering : Process → Type 0
-Entering h = EnteringAt (h .node) (h .segment) (h .name) (h .steps)
+Entering h = EnteringAt (h .node) (h .segment) (h .name) (h .steps) (h .returns)
 
 -- GATE. The gate word is k less the number of processes in stage 2 or later, and the queue has one place for each that it fell below
 -- 0. Nobody stands in the queue twice, and whoever does is in stage 2.

@@ -11,5 +11,6 @@ pub mod Preserved
 pub mod Implies
 pub mod Steps
 pub mod Along
+pub mod Rounds
 pub mod Theorem
 pub mod Controls

@@ -4,18 +4,20 @@
 use mathlib.Core.List.{List}
 use Prim.Native.Nat.{ℕ, _+_, _≤_, _<_}
 use lib.ListN.{length, take}
-use Rattle.machine.proofs.Rules.{_∙_, ap, _≡_, arith}
+use Rattle.machine.proofs.Rules.{_∙_, ap, _≡_, true, arith}
 use Rattle.machine.specs.Admitted.{admitted}
 use Rattle.machine.specs.Lists.{Event, after}
 use Rattle.machine.specs.Setup.{names, setupAnswer, height}
+use Rattle.machine.specs.Stage.{remainder}
 use Rattle.machine.specs.State.{fresh}
 use Rattle.machine.proofs.Laws.Fresh.{process-fresh}
 use Rattle.renaming_claim.specs.Claim.{Claim, afterList, EveryList}
-use Rattle.renaming_claim.specs.History.{claimSteps}
-use Rattle.renaming_claim.proofs.Along.{list-steps, list-wins}
+use Rattle.renaming_claim.specs.History.{claimSteps, returnOperations, asked}
+use Rattle.renaming_claim.proofs.Along.{list-steps, list-returns, list-wins}
 use Rattle.renaming_claim.proofs.Implies.{admitted-few, not-exhausted, name-below, name-low, names-unlike, least-steps, most-steps}
 use Rattle.renaming_claim.proofs.Mover.{Setup, Process, State, processAt, Mover}
 use Rattle.renaming_claim.proofs.Preserved.{Steady, list-sound, list-steady, list-setup}
+use Rattle.renaming_claim.proofs.Rounds.{Full, asked-rested}
 use Rattle.renaming_claim.proofs.Start.{start-sound}
 
 module _ (c : Setup) (accepted : setupAnswer c ≡ 0) where
@@ -25,11 +27,18 @@ module _ (c : Setup) (accepted : setupAnswer c ≡ 0) where
   start : Steady s
   start = start-sound c accepted (s .setup .processes)
 
-  counted : (es : List Event) (p : ℕ) → p < c .processes → processAt (after s es) p .steps ≡ claimSteps p s es 0
+  -- process p at the start
+  first : (p : ℕ) → p < c .processes → Mover (s .setup .processes) s p
   unfolding fresh
-  counted es p k =
-      list-steps s p (record { sound = start; known = k }) es
-      ∙ ap (λ (x : Process). claimSteps p s es (x .steps)) (process-fresh c accepted p k)
+  first p k = record { sound = start; known = k }
+
+  steps-are : (es : List Event) (p : ℕ) → p < c .processes → processAt (after s es) p .steps ≡ claimSteps p s es 0
+  steps-are es p k =
+      list-steps s p (first p k) es ∙ ap (λ (x : Process). claimSteps p s es (x .steps)) (process-fresh c accepted p k)
+
+  returns-are : (es : List Event) (p : ℕ) → p < c .processes → processAt (after s es) p .returns ≡ returnOperations p s es 0
+  returns-are es p k =
+      list-returns s p (first p k) es ∙ ap (λ (x : Process). returnOperations p s es (x .returns)) (process-fresh c accepted p k)
 
   module _ (es : List Event) where
     abbrev t : State
@@ -60,6 +69,10 @@ module _ (c : Setup) (accepted : setupAnswer c ≡ 0) where
       one : Mover (t .setup .processes) t p
       one = record { sound = sound; known = known }
 
+      -- it is idle, with an accepted request behind it
+      round : processAt t p .stage ≡ remainder → asked p s es ≡ true → Full (t .setup) (processAt t p)
+      round e a = asked-rested s p (first p k) es a e
+
       -- with M any bound on how many are admitted at a moment of the list
       low : (m : ℕ) → ((i : ℕ) → i ≤ length es → admitted (after s (take i es)) ≤ m) → Mover m t p
       low m few = record { sound = list-sound (start-sound c accepted m) es few; known = known }
@@ -72,9 +85,14 @@ module _ (c : Setup) (accepted : setupAnswer c ≡ 0) where
         held-unlike = λ p q k j d e f. names-unlike (one es p k) e q (known es q j) d;
         none-exhausted = λ p k. not-exhausted (one es p k);
         held-low = λ m few p k e. omega (arith, name-low (low es p k m few) e);
-        steps-counted = counted es;
+        steps-counted = steps-are es;
+        returns-counted = returns-are es;
         steps-least = λ p k e. omega (arith, least-steps (one es p k) e, height-is es);
         steps-most = λ p k e. omega (arith, most-steps (one es p k), most-is es);
+        round-claimed = λ p k e a. omega (arith, round es p k e a .claimed, height-is es);
+        round-cleared = λ p k e a. round es p k e a .cleared;
+        shows-least = λ p k e a. omega (arith, round es p k e a .claimed, round es p k e a .cleared, height-is es);
+        shows-most = λ p k e a. omega (arith, most-steps (one es p k), round es p k e a .most, height-is es, most-is es);
         wins = λ p k e fs given.
             list-wins (height (c .leaves) + c .segments) (t es) p (one es p k) fs (e, omega (arith, most-is es)) (omega (arith, given));
       }

@@ -1,21 +1,22 @@
 -- Demand 3: what holds after every list of events from an accepted setup c of N processes (handsets), L leaves, g segments
 -- (rows) and b bits. A list has any length and its events are any two numbers, refused ones included. The machine is fed the four
 -- numbers and the events alone; its stages say who is admitted (let in), in getname (claiming), working (holding) or exhausted
--- (astray).
+-- (astray). "Where demand 3 says spent it now means the claim figure" (document 02, b): the record's steps.
 use mathlib.Core.Path.{_≡_}
 use mathlib.Core.Logic.{_≢_}
+use mathlib.Core.Bool.{true}
 use mathlib.Core.List.{List}
-use Prim.Native.Nat.{ℕ, _+_, _≤_, _<_}
+use Prim.Native.Nat.{ℕ, _+_, _*_, _≤_, _<_}
 use lib.ListN.{length, take}
 use Rattle.machine.specs.Admitted.{admitted}
 use Rattle.machine.specs.Lists.{Event, after}
 use Rattle.machine.specs.Setup.{setupAnswer, names, height}
-use Rattle.machine.specs.Stage.{getname, working, exhausted}
-use Rattle.machine.specs.State.{processAt, fresh}
+use Rattle.machine.specs.Stage.{remainder, getname, working, exhausted}
+use Rattle.machine.specs.State.{figure, processAt, fresh}
 use Rattle.machine.specs.declared.Process.{Process}
 use Rattle.machine.specs.declared.Setup.{Setup}
 use Rattle.machine.specs.declared.State.{State}
-use Rattle.renaming_claim.specs.History.{claimSteps, stepsGiven, HoldsWithin}
+use Rattle.renaming_claim.specs.History.{claimSteps, returnOperations, asked, stepsGiven, HoldsWithin}
 
 -- the machine's state after a list
 abbrev pub afterList : Setup → List Event → State
@@ -42,10 +43,22 @@ module _ (c : Setup) (stateAfter : List Event → State) where
         → (p : ℕ) → p < c .processes → processAfter es p .stage ≡ working → processAfter es p .name < m
     -- Each handset's spent is the number of its claim turns since its last accepted ask; before its first there are none.
     pub steps-counted : (p : ℕ) → p < c .processes → processAfter es p .steps ≡ claimSteps p (fresh c) es 0
-    -- A holder's is at least h + 1 and at most h + g.
+    -- Its return operations since then are counted beside them (document 02, b); before its first accepted ask there are none.
+    pub returns-counted : (p : ℕ) → p < c .processes → processAfter es p .returns ≡ returnOperations p (fresh c) es 0
+    -- A holder's spent is at least h + 1 and at most h + g.
     pub steps-least : (p : ℕ) → p < c .processes → processAfter es p .stage ≡ working → height (c .leaves) + 1 ≤ processAfter es p .steps
     pub steps-most : (p : ℕ) → p < c .processes → processAfter es p .stage ≡ working
         → processAfter es p .steps ≤ height (c .leaves) + c .segments
+    -- An idle handset with an accepted ask behind it has made a full round: it claimed as a holder does, and cleared its bit.
+    pub round-claimed : (p : ℕ) → p < c .processes → processAfter es p .stage ≡ remainder → asked p (fresh c) es ≡ true
+        → height (c .leaves) + 1 ≤ processAfter es p .steps
+    pub round-cleared : (p : ℕ) → p < c .processes → processAfter es p .stage ≡ remainder → asked p (fresh c) es ≡ true
+        → 1 ≤ processAfter es p .returns
+    -- It shows from h + 2 to 2h + g + 1 (document 02, b).
+    pub shows-least : (p : ℕ) → p < c .processes → processAfter es p .stage ≡ remainder → asked p (fresh c) es ≡ true
+        → height (c .leaves) + 2 ≤ figure (processAfter es p)
+    pub shows-most : (p : ℕ) → p < c .processes → processAfter es p .stage ≡ remainder → asked p (fresh c) es ≡ true
+        → figure (processAfter es p) ≤ 2 * height (c .leaves) + c .segments + 1
     -- Whatever events follow, once a handset that is claiming after the list has been given h + g more turns, it held a pad
     -- directly after one of them.
     pub wins : (p : ℕ) → p < c .processes → processAfter es p .stage ≡ getname → (fs : List Event)

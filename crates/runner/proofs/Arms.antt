@@ -10,21 +10,20 @@ use Rattle.machine.specs.Answer.{accepted, kind, stranger}
 use Rattle.machine.specs.Event.{event}
 use Rattle.machine.specs.Kind.{release}
 use Rattle.machine.specs.Lists.{showsNone, entryOf, entryBytes}
-use Rattle.machine.specs.Operations.{clrBit}
 use Rattle.machine.specs.Setup.{names}
-use Rattle.machine.specs.State.{done, none, noProcess, processAt, counterAt, wordAt, withName}
+use Rattle.machine.specs.State.{done, noProcess, figure, processAt, counterAt, wordAt}
 use Rattle.machine.specs.State.{withGate, withQueue, withCounter, withWord, withProcess}
 use Rattle.machine.specs.declared.Done.{Done}
 use Rattle.machine.specs.declared.Process.{Process}
 use Rattle.machine.specs.declared.Setup.{Setup}
 use Rattle.machine.specs.declared.State.{State}
 use Rattle.machine.proofs.Laws.Answers.{kind-refused, stranger-refused}
-use Rattle.machine.proofs.Laws.OnePlace.{sized-kept}
+use Rattle.machine.proofs.Laws.OnePlace.{setup-unchanged, sized-kept}
 use Rattle.machine.proofs.Ranges.{answer-of, in-range}
-use Rattle.machine.proofs.Valid.{Valid}
+use Rattle.machine.proofs.Valid.{Valid, event-valid}
 use Rattle.operations.proofs.ByPlace.{event-at}
 use Rattle.gate.specs.Moves.{entered, enteredQueue, awaited, departed, departedQueue}
-use Rattle.operations.specs.Moves.{descended, probed, climbed}
+use Rattle.operations.specs.Moves.{descended, probed, givenBack, climbed}
 use Rattle.operations.specs.Places.{Setting, placeOf, doneAt}
 use Rattle.gate.specs.declared.Gated.{Gated}
 use Rattle.operations.specs.declared.getname.Moved.{Moved}
@@ -105,10 +104,10 @@ module _ {s : State} {kind p : ℕ} (turn : Turn s kind p) where
   unfolding doneAt
   segment e em = simp em (at-place e)
 
-  pub bit : {w r i : ℕ} → place ≡ Bit r i → w ≡ clrBit (wordAt s r) i
-      → Stored s kind p (withWord r w s) (withName none h) accepted
+  pub bit : {m : Moved} {r i : ℕ} → place ≡ Bit r i → m ≡ givenBack h (wordAt s r) i
+      → Stored s kind p (withWord r (m .word) s) (m .process) (m .answer)
   unfolding doneAt
-  bit e ew = simp ew (at-place e)
+  bit e em = simp em (at-place e)
 
   pub parent : {m : Moved} {u : ℕ} → place ≡ Parent u → m ≡ climbed c u h (counterAt s u)
       → Stored s kind p (withCounter u (m .word) s) (m .process) (m .answer)
@@ -126,16 +125,27 @@ module _ {s : State} {kind p : ℕ} (turn : Turn s kind p) where
       (eq ∙ ap (λ (y : ℤ). departedQueue (names c) y (s .queued) (s .queue)) ez)
       ez′
 
-  -- the journal entry of the event
-  pub wrote : (t : State) (x : Process) (a : ℕ) → Stored s kind p t x a
-      → entryBytes a x ≡ entryOf s (record { kind = kind; process = p })
-  unfolding entryOf
-  wrote t x a e =
-      let n : length (event s kind p .state .process) ≡ 64 = sized-kept s kind p (turn .valid .sized) .process in
-      let n′ : length (t .process) ≡ 64
-      = sym (length-set (t .process) p x) ∙ sym (ap (λ (d : Done). length (d .state .process)) e) ∙ n in
-      let l : p < length (t .process) = omega (arith, n′, turn .member, turn .valid .ranges .limits .n64) in
-      rw (e, getD-set-same (t .process) p x noProcess l)
+  -- the record stored is that of p after the event
+  module _ (t : State) (x : Process) (a : ℕ) (e : Stored s kind p t x a) where
+    stands : processAt (event s kind p .state) p ≡ x
+    stands =
+        let n : length (event s kind p .state .process) ≡ 64 = sized-kept s kind p (turn .valid .sized) .process in
+        let n′ : length (t .process) ≡ 64
+        = sym (length-set (t .process) p x) ∙ sym (ap (λ (d : Done). length (d .state .process)) e) ∙ n in
+        let l : p < length (t .process) = omega (arith, n′, turn .member, turn .valid .ranges .limits .n64) in
+        rw e (getD-set-same (t .process) p x noProcess l)
+
+    -- so its figure is a byte, and the journal entry is the event's
+    pub byte : figure x ≤ 255
+    byte =
+        let after = event-valid (turn .valid) kind p in
+        let member : p < event s kind p .state .setup .processes
+        = omega (arith, turn .member, ap (λ (d : Setup). d .processes) (setup-unchanged s kind p)) in
+        omega (arith, after .ranges .process p member .shown, ap (λ (y : Process). figure y) stands)
+
+    pub wrote : entryBytes a x ≡ entryOf s (record { kind = kind; process = p })
+    unfolding entryOf
+    wrote = rw (stands, e)
 
 -- an unknown kind and a stranger: the event, and its entry
 module _ (s : State) (k p : ℕ) (v : Valid s) where

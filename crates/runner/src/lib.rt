@@ -2,7 +2,6 @@
 mod journal;
 
 use fresh::limits;
-use machine::NO_NAME;
 use machine::State;
 use machine::answer;
 use machine::kind;
@@ -10,7 +9,6 @@ use operations::getname;
 use operations::place;
 use operations::place::Place;
 use operations::putname;
-use operations::words;
 ghost use mathlib.Core.Path.{_≡_};
 ghost use mathlib.Core.Bool.{true};
 ghost use Prim.Native.Nat.{_*_, _%_, _≤_};
@@ -89,8 +87,10 @@ pub fn run_checked(state: State, events: &[u8], journal: &mut [u8]) -> State
             }
             Place::Bit(r, bit) => {
                 let j = r as usize;
-                t.words[j] = words::clr_bit(t.words[j], bit);
-                x.name = NO_NAME;
+                let m = putname::give_back(h, t.words[j], bit);
+                t.words[j] = m.word;
+                x = m.process;
+                answer = m.answer;
             }
             Place::Parent(u) => {
                 let j = u as usize;

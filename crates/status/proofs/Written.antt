@@ -1,7 +1,7 @@
 -- The status records while they are filled, by induction on the records written; and what an answer of 0, or another, says of it.
 --     written-length       a list with i records written is as long as it was
 --     written-more         one more record stored is one more written
---     accepted             answered 0, the processes are at most 64, and the list has room for them
+--     accepted             answered 0, the processes are at most 64, the list has room for them, and each figure is a byte
 --     accepted-list        answered 0, the list at exit has all its records written
 --     refused-list         answered anything else, it is as it was
 -- Assumes nothing.
@@ -10,6 +10,7 @@ use Prim.Native.Nat.{ℕ, zero, suc, _≤_, _<_}
 use lib.ListN.{length, getD, set, take, drop}
 use Rattle.machine.proofs.Rules.{_≡_, sym, ap, refl, arith, leb-true}
 use Rattle.machine.specs.Reports.{statusOf, statusChecks, statusAnswer, statusRecords}
+use Rattle.machine.specs.State.{figure, processAt}
 use Rattle.machine.specs.declared.State.{State}
 use Rattle.machine.specs.declared.Status.{Status}
 use Rattle.machine.proofs.Facts.Checks.{all-passed, accepted-with, refused-with}
@@ -35,11 +36,14 @@ written-more {B = B} f (x ∷ xs) d (suc i) (y ∷ ys) k l =
     ap (λ (zs : List B). f x ∷ zs) (written-more f xs d i ys (omega (arith, k)) (omega (arith, l)))
 
 module _ (s : State) (records : List Status) where
-  pub accepted : statusAnswer s records ≡ 0 → (s .setup .processes ≤ 64) × (s .setup .processes ≤ length records)
+  pub accepted : statusAnswer s records ≡ 0
+      → (s .setup .processes ≤ 64) × (s .setup .processes ≤ length records)
+      × ((p : ℕ) → p < s .setup .processes → figure (processAt s p) ≤ 255)
   unfolding statusAnswer
   accepted e =
       let p = all-passed (statusChecks s records) refl e in
-      (ranges-of s (p .0) .limits .n64, leb-true _ _ (p .1 .0))
+      let ranges = ranges-of s (p .0) in
+      (ranges .limits .n64, leb-true _ _ (p .1 .0), λ i l. ranges .process i l .shown)
 
   pub accepted-list : statusAnswer s records ≡ 0 → written statusOf (s .process) (s .setup .processes) records ≡ statusRecords s records
   unfolding statusAnswer statusRecords

@@ -3,11 +3,14 @@ use machine::Process;
 use machine::State;
 use machine::Status;
 use machine::answer;
+use machine::counts;
 use ranges::range;
 ghost use mathlib.Core.Path.{_≡_};
 ghost use mathlib.Core.List.{List};
+ghost use Prim.Native.Nat.{_≤_};
 ghost use lib.ListN.{length};
 ghost use Rattle.machine.specs.Reports.{statusAnswer, statusOf};
+ghost use Rattle.machine.specs.State.{figure};
 ghost use Rattle.machine.specs.declared.Status.{Status};
 
 // 0, 15 for a broken state, or 13 where so many records are fewer than the processes.
@@ -38,13 +41,14 @@ pub(crate) fn processes(state: State) -> [Process; 64]
     state.process
 }
 
-// Stage, name and steps of a process.
+// Stage, name and figure of a process.
 pub(crate) fn status_of(h: Process) -> Status
+    requires { ⌜ figure h ≤ 255 ⌝ }
     ensures { λ r. ⌜ r ≡ statusOf h ⌝ }
 {
     Status {
         stage: h.stage,
         name: h.name,
-        steps: h.steps,
+        figure: counts::figure(h),
     }
 }

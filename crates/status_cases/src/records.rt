@@ -23,7 +23,7 @@ fn list_numbers(filled: Filled) -> [u64; 241]
         let record = filled.records[p];
         numbers[3 * p + 1] = input::number(record.stage);
         numbers[3 * p + 2] = input::number(record.name);
-        numbers[3 * p + 3] = input::number(record.steps);
+        numbers[3 * p + 3] = input::number(record.figure);
         p += 1;
     }
     numbers
@@ -57,7 +57,7 @@ fn print_list(state: State, count: usize) -> bool
     let list = [Status {
         stage: 170,
         name: 170,
-        steps: 170,
+        figure: 170,
     }; 80];
     let filled = lend::fill_first(state, list, count);
     let numbers = list_numbers(filled);
@@ -70,8 +70,8 @@ fn print_list(state: State, count: usize) -> bool
 // Reads a record, runs its list, fills the status records and prints its line. False where the input ends, within a record too, and where
 // more is to be lent than there is.
 pub(crate) fn next() -> bool {
-    let mut image = [0u8; 470];
-    if io::read_full(0, &mut image) < 470 {
+    let mut image = [0u8; 534];
+    if io::read_full(0, &mut image) < 534 {
         return false;
     }
     let done = run_next(image::state_of(&image));

@@ -1,5 +1,5 @@
--- What the program prints for P11's file, byte for byte as document 01 shows it, and for a refused one; `printed` in
--- proofs/Controls.antt computes each.
+-- What the program prints for P11's file, byte for byte as document 01 shows it with lines eight and nine ending in 2 (document 02, b),
+-- and for a refused one; `printed` in proofs/Controls.antt computes each.
 use mathlib.Core.Path.{_≡_}
 use mathlib.Core.List.{List, [], _∷_, _++_}
 use Prim.Native.Nat.{ℕ}
@@ -15,7 +15,7 @@ abbrev pub dash : ℕ
 dash = 45
 
 pub record Printed : Type 0 where
-  -- 0 1 - 0, 0 3 - 0, 0 4 0 1, 0 1 - 0, 0 2 - 0, 0 2 - 0, 0 5 0 1, 0 5 - 1, 0 0 - 1, 0 3 - 0, 0 4 0 1
+  -- 0 1 - 0, 0 3 - 0, 0 4 0 1, 0 1 - 0, 0 2 - 0, 0 2 - 0, 0 5 0 1, 0 5 - 2, 0 0 - 2, 0 3 - 0, 0 4 0 1
   pub p11 :
       fileText p11-file
       ≡ row 48 49 dash 48
@@ -25,8 +25,8 @@ pub record Printed : Type 0 where
       ++ row 48 50 dash 48
       ++ row 48 50 dash 48
       ++ row 48 53 48 49
-      ++ row 48 53 dash 49
-      ++ row 48 48 dash 49
+      ++ row 48 53 dash 50
+      ++ row 48 48 dash 50
       ++ row 48 51 dash 48
       ++ row 48 52 48 49
   -- refused 10

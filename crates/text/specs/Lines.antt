@@ -25,9 +25,10 @@ decimal n =
 unfoldable pub figure : ℕ → ℕ → List ℕ
 figure n end = cond (eqb n 255) (45 ∷ end ∷ []) (decimal n ++ end ∷ [])
 
--- One line for each event: answer, stage, pad, spent, parted by one space.
+-- One line for each event: answer, stage, pad, and the sum that the journal shows (document 02, b, where document 01 has spent), parted by
+-- one space.
 unfoldable pub line : ℕ → ℕ → ℕ → ℕ → List ℕ
-line answer stage name steps = figure answer space ++ (figure stage space ++ (figure name space ++ figure steps newline))
+line answer stage name sum = figure answer space ++ (figure stage space ++ (figure name space ++ figure sum newline))
 
 -- the line of the entry at byte i of a journal
 abbrev pub lineAt : List ℕ → ℕ → List ℕ
@@ -39,7 +40,7 @@ lines [] = []
 lines (answer ∷ []) = []
 lines (answer ∷ stage ∷ []) = []
 lines (answer ∷ stage ∷ name ∷ []) = []
-lines (answer ∷ stage ∷ name ∷ steps ∷ entries) = line answer stage name steps ++ lines entries
+lines (answer ∷ stage ∷ name ∷ sum ∷ entries) = line answer stage name sum ++ lines entries
 
 -- A refused file prints only `refused n`.
 abbrev pub refusedWord : List ℕ

@@ -1,5 +1,6 @@
-//! States with one number outside its range.
+//! States with one number, or the sum of two, outside its range.
 
+use super::costs::{set_cost, PAST};
 use super::reached::{accepted_event, accepted_pair, mid_run, SETUPS};
 use super::Records;
 use crate::random::Random;
@@ -91,15 +92,17 @@ fn segments(good: &State) -> Kind {
         .collect()
 }
 
-/// Its stage, node, segment and name.
+/// Its stage, node, segment, name and cost.
 fn process(good: &State, p: usize) -> Vec<Kind> {
     let [l, g, k] = [good.l, good.g, good.names()];
     let one = |change: &dyn Fn(&mut Process)| changed(good, |s| change(&mut s.processes[p]));
+    let costs = PAST.map(|cost| one(&|x| set_cost(x, cost)));
     vec![
         vec![one(&|x| x.stage = 7), one(&|x| x.stage = 255)],
         vec![one(&|x| x.node = 0), one(&|x| x.node = 2 * l)],
         vec![one(&|x| x.segment = g)],
         vec![one(&|x| x.name = k), one(&|x| x.name = 254)],
+        costs.into(),
     ]
 }
 

@@ -1,6 +1,7 @@
 //! Random states: every number at random within its range, and one in six
 //! broken at one place.
 
+use super::costs::set_cost;
 use super::{broken, ends, Records};
 use crate::cases::chance::setup;
 use crate::cases::schedule::natural_kind;
@@ -48,7 +49,25 @@ fn fill_words(rng: &mut Random, state: &mut State) {
     }
 }
 
+/// Steps and returns within their range: both small, at its end or near it,
+/// or anything.
+fn cost(rng: &mut Random) -> [u8; 2] {
+    let sum = match rng.below(6) {
+        0 => return [rng.between(0, 12), rng.between(0, 6)],
+        1 | 2 => 255,
+        3 => rng.between(250, 254),
+        _ => rng.byte(),
+    };
+    let steps = match rng.below(4) {
+        0 => 0,
+        1 => sum,
+        _ => rng.between(0, sum),
+    };
+    [steps, sum - steps]
+}
+
 fn process(rng: &mut Random, state: &State) -> Process {
+    let [steps, returns] = cost(rng);
     Process {
         stage: rng.between(0, 6),
         node: rng.between(1, 2 * state.l - 1),
@@ -58,11 +77,8 @@ fn process(rng: &mut Random, state: &State) -> Process {
         } else {
             rng.byte_below(state.names())
         },
-        steps: match rng.below(5) {
-            0 => 255,
-            1 => rng.between(0, 12),
-            _ => rng.byte(),
-        },
+        steps,
+        returns,
     }
 }
 
@@ -144,13 +160,26 @@ fn add_list(records: &mut Records, rng: &mut Random, good: &State, state: &State
     records.list(state, &events, journal_len);
 }
 
+/// Some process with any cost past the end of the range.
+pub(crate) fn broken_cost(rng: &mut Random, good: &State) -> State {
+    let mut state = good.clone();
+    let process = rng.below(usize::from(good.n));
+    let steps = rng.between(1, 255);
+    let returns = rng.between(255 - (steps - 1), 255);
+    set_cost(&mut state.processes[process], [steps, returns]);
+    state
+}
+
 /// The state itself or, one time in six, broken at one place.
 pub(crate) fn perhaps_broken(rng: &mut Random, good: &State) -> State {
-    if rng.chance(1, 6) {
-        let mut states = broken::states(good);
-        return states.swap_remove(rng.below(states.len()));
+    match rng.below(24) {
+        0 => broken_cost(rng, good),
+        1..=3 => {
+            let mut states = broken::states(good);
+            states.swap_remove(rng.below(states.len()))
+        }
+        _ => good.clone(),
     }
-    good.clone()
 }
 
 pub fn add(records: &mut Records, rng: &mut Random) {

@@ -1,6 +1,7 @@
 //! States at the very ends of the ranges and with unused places filled;
 //! all of them are accepted.
 
+use super::costs::{set_cost, LAST};
 use super::reached::{accepted_event, accepted_pair, fresh, mid_run};
 use super::Records;
 use crate::machine::kind::{RELEASE, REQUEST, STEP};
@@ -46,24 +47,28 @@ fn full_queue(records: &mut Records, good: &State) {
     records.report(&state);
 }
 
-/// A process at the last node, the last segment and the last name, with
-/// steps at 255.
+/// A process at the last node, the last segment and the last name, with the
+/// highest cost, made in a way that the stage chooses.
 pub(crate) fn last_places(state: &State, stage: u8) -> Process {
+    let [steps, returns] = LAST[usize::from(stage) % LAST.len()];
     Process {
         stage,
         node: 2 * state.l - 1,
         segment: state.g - 1,
         name: state.names() - 1,
-        steps: 255,
+        steps,
+        returns,
     }
 }
 
-/// Such a process in each stage.
+/// Such a process in each stage, the cost made in other ways by the setup.
 fn process_ends(records: &mut Records, good: &State) {
     for stage in stage::REMAINDER..=stage::EXHAUSTED {
         let mut state = good.clone();
         let last = usize::from(state.n) - 1;
         state.processes[last] = last_places(&state, stage);
+        let way = usize::from(stage + state.b) % LAST.len();
+        set_cost(&mut state.processes[last], LAST[way]);
         let process = last as u8;
         let events = [STEP, process, RELEASE, process, REQUEST, process];
         records.list(&state, &events, 12);
@@ -79,7 +84,8 @@ fn word_ends(records: &mut Records, setup: [u8; 4]) {
         node: 2 * state.l - 1,
         segment: state.g - 1,
         name: NO_NAME,
-        steps: 254,
+        steps: 200,
+        returns: 54,
     };
     records.event(&state, STEP, 0);
     let used = usize::from(state.l) * usize::from(state.g);
@@ -105,6 +111,7 @@ pub fn fill_unused(state: &mut State, mut byte: impl FnMut() -> u8) {
             segment: byte(),
             name: byte(),
             steps: byte(),
+            returns: byte(),
         };
     }
 }
@@ -138,6 +145,7 @@ fn odd_records(records: &mut Records) {
             segment: 1,
             name,
             steps: 9,
+            returns: 4,
         };
     }
     state.segments[3] = 3;

@@ -2,6 +2,7 @@
 
 pub mod broken;
 pub mod chance;
+pub mod costs;
 pub mod ends;
 pub mod orders;
 pub mod outside;
@@ -92,7 +93,7 @@ impl Records {
         let untouched = Status {
             stage: UNTOUCHED,
             name: UNTOUCHED,
-            steps: UNTOUCHED,
+            cost: UNTOUCHED,
         };
         let mut lent = vec![untouched; usize::from(room)];
         let answer = after.fill_roll(&mut lent);
@@ -100,7 +101,7 @@ impl Records {
         for record in lent {
             line.push_str(&format!(
                 " {} {} {}",
-                record.stage, record.name, record.steps
+                record.stage, record.name, record.cost
             ));
         }
         let call = [&[events.len() as u8], events, &[room]].concat();
@@ -121,6 +122,7 @@ pub fn fixed(records: &mut Records, rng: &mut Random) {
     ends::add(records, rng);
     outside::add(records);
     orders::add(records, rng);
+    costs::add(records, rng);
 }
 
 /// The first `count` records of a seed.

@@ -1,6 +1,7 @@
 //! Calls with several faults, so that the order of the checks shows, and
 //! journals of every length about the right one.
 
+use super::costs::set_cost;
 use super::reached::{accepted_pair, mid_run};
 use super::Records;
 use crate::random::Random;
@@ -52,9 +53,9 @@ fn journal_lengths(records: &mut Records, good: &State) {
 fn mixed_list(records: &mut Records, good: &State) {
     let mut state = good.clone();
     state.processes[0].stage = stage::GETNAME;
-    state.processes[0].steps = 255;
+    set_cost(&mut state.processes[0], [250, 5]);
     state.processes[1].stage = stage::WORKING;
-    state.processes[1].steps = 255;
+    set_cost(&mut state.processes[1], [255, 0]);
     state.processes[2].stage = stage::REMAINDER;
     let n = state.n;
     let events = [

@@ -1,5 +1,5 @@
-//! Steps that would take a number outside its range, and their neighbours
-//! that would not.
+//! Steps that would take a number of the gate, the queue or the tree outside
+//! its range, and their neighbours that would not.
 
 use super::reached::fresh;
 use super::Records;
@@ -16,13 +16,14 @@ fn try_step(records: &mut Records, state: &State) {
     }
 }
 
-fn put(state: &mut State, stage: u8, node: u8, segment: u8, steps: u8) {
+fn put(state: &mut State, stage: u8, node: u8, segment: u8, [steps, returns]: [u8; 2]) {
     state.processes[0] = Process {
         stage,
         node,
         segment,
         name: NO_NAME,
         steps,
+        returns,
     };
 }
 
@@ -39,25 +40,11 @@ fn entry(records: &mut Records) {
     ];
     for (gate, len) in places {
         let mut state = fresh([5, 4, 2, 1]);
-        put(&mut state, stage::ENTRY, 1, 0, 0);
+        put(&mut state, stage::ENTRY, 1, 0, [0, 0]);
         state.gate = gate;
         state.queue_len = len;
         state.queue[..usize::from(len)].fill(3);
         try_step(records, &state);
-    }
-}
-
-/// Getname with steps at 255 and 254: at an inner node, where a bit would
-/// be won, where the segment would change and where the process would
-/// stray.
-fn getname(records: &mut Records) {
-    for steps in [254, 255] {
-        for (node, segment, word) in [(1, 0, 0), (3, 0, 0), (6, 0, 0), (6, 0, 3), (6, 1, 3)] {
-            let mut state = fresh([5, 4, 2, 2]);
-            put(&mut state, stage::GETNAME, node, segment, steps);
-            state.segments[4..6].fill(word);
-            try_step(records, &state);
-        }
     }
 }
 
@@ -66,7 +53,7 @@ fn getname(records: &mut Records) {
 fn climb(records: &mut Records) {
     for node in [2, 4, 6, 8, 16, 30, 3, 31] {
         let mut state = fresh([5, 16, 2, 2]);
-        put(&mut state, stage::PUTNAME, node, 0, 255);
+        put(&mut state, stage::PUTNAME, node, 0, [253, 1]);
         try_step(records, &state);
         if node % 2 == 0 {
             state.counters[usize::from(node / 2)] -= 1;
@@ -80,14 +67,14 @@ fn climb(records: &mut Records) {
 fn leave(records: &mut Records) {
     for (below, len) in [(0, 0), (0, 1), (0, 64), (1, 0), (1, 1), (1, 64)] {
         let mut state = fresh([5, 4, 2, 1]);
-        put(&mut state, stage::PUTNAME, 1, 1, 7);
+        put(&mut state, stage::PUTNAME, 1, 1, [7, 3]);
         state.gate -= below;
         state.queue_len = len;
         state.queue[..usize::from(len)].fill(4);
         try_step(records, &state);
     }
     let mut state = fresh([64, 16, 4, 1]);
-    put(&mut state, stage::PUTNAME, 1, 0, 255);
+    put(&mut state, stage::PUTNAME, 1, 0, [250, 5]);
     state.queue_len = MAX as u8;
     state.queue = std::array::from_fn(|place| (MAX - 1 - place) as u8);
     records.event(&state, STEP, 0);
@@ -95,7 +82,6 @@ fn leave(records: &mut Records) {
 
 pub fn add(records: &mut Records) {
     entry(records);
-    getname(records);
     climb(records);
     leave(records);
 }

@@ -6,6 +6,7 @@ pub mod schedule;
 pub mod setups;
 pub mod shapes;
 pub mod special;
+pub mod ways_back;
 pub mod worked;
 
 use crate::random::Random;
@@ -32,6 +33,7 @@ pub fn fixed(rng: &mut Random) -> Vec<Case> {
     cases.extend(setups::cases());
     cases.extend(shapes::cases(rng));
     cases.extend(special::cases(rng));
+    cases.extend(ways_back::cases(rng));
     cases
 }
 

@@ -7,7 +7,7 @@ use crate::machine::kind;
 use crate::random::Random;
 use crate::state::stage;
 
-fn everybody(schedule: Schedule, noise: usize) -> Plan {
+pub(super) fn everybody(schedule: Schedule, noise: usize) -> Plan {
     Plan {
         schedule,
         pool: 64,
@@ -22,13 +22,13 @@ fn planned(rng: &mut Random, setup: [u8; 4], count: usize, plan: Plan) -> Vec<u8
     maker.events
 }
 
-fn shuffled(maker: &mut ListMaker) -> Vec<u8> {
+pub(super) fn shuffled(maker: &mut ListMaker) -> Vec<u8> {
     let mut order: Vec<u8> = (0..maker.state.n).collect();
     maker.rng.shuffle(&mut order);
     order
 }
 
-fn request_all(maker: &mut ListMaker) {
+pub(super) fn request_all(maker: &mut ListMaker) {
     for process in shuffled(maker) {
         if maker.stage(process) == stage::REMAINDER {
             maker.push(kind::REQUEST, process);
@@ -47,7 +47,7 @@ fn moves(maker: &ListMaker, process: u8) -> bool {
 
 /// Steps in random order until nobody can move; sometimes a step is given
 /// to one that works, waits or is in its remainder.
-fn race(maker: &mut ListMaker) {
+pub(super) fn race(maker: &mut ListMaker) {
     loop {
         let mut movers: Vec<u8> = (0..maker.state.n).collect();
         movers.retain(|&process| moves(maker, process));
@@ -63,7 +63,7 @@ fn race(maker: &mut ListMaker) {
     }
 }
 
-fn release_all(maker: &mut ListMaker) {
+pub(super) fn release_all(maker: &mut ListMaker) {
     for process in shuffled(maker) {
         if maker.stage(process) == stage::WORKING {
             maker.push(kind::RELEASE, process);

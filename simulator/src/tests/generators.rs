@@ -1,7 +1,7 @@
 //! The generators, and what they show of the machine.
 
 use crate::calls::{broken, chance, reached, Records};
-use crate::cases::{self, schedule, shapes, special};
+use crate::cases::{self, schedule, shapes, special, ways_back};
 use crate::day_file::read_day_file;
 use crate::random::Random;
 use crate::state::{stage, State};
@@ -20,9 +20,9 @@ fn images_round_trip() {
 fn any_image_and_any_bytes() {
     let mut rng = Random::new(4);
     for round in 0..4000 {
-        let mut image: [u8; 470] = chance::state(&mut rng).to_image();
+        let mut image: [u8; 534] = chance::state(&mut rng).to_image();
         if round % 2 == 0 {
-            let at = rng.below(470);
+            let at = rng.below(534);
             image[at] = rng.byte();
         }
         let mut state = State::from_image(&image);
@@ -64,7 +64,7 @@ fn every_shape_stands_once() {
 }
 
 /// What a user may rely on: distinct names, no more admitted than names,
-/// nobody exhausted, steps between h + 1 and h + g.
+/// nobody exhausted, steps between h + 1 and h + g and no return so far.
 fn check_promises(state: &State) {
     let used = &state.processes[..usize::from(state.n)];
     let height = state.l.ilog2() as u8;
@@ -83,6 +83,7 @@ fn check_promises(state: &State) {
             ));
             let steps = height + 1..=height + state.g;
             assert!(steps.contains(&process.steps));
+            assert_eq!(process.returns, 0);
         }
     }
     assert!(admitted <= state.names());
@@ -91,10 +92,10 @@ fn check_promises(state: &State) {
 #[test]
 fn lists_keep_the_promises() {
     let mut rng = Random::new(6);
-    for case in shapes::cases(&mut rng)
-        .iter()
-        .chain(&special::cases(&mut rng))
-    {
+    let mut all = shapes::cases(&mut rng);
+    all.extend(special::cases(&mut rng));
+    all.extend(ways_back::cases(&mut rng));
+    for case in all {
         let (mut state, events) = read_day_file(&case.file).unwrap();
         for event in events.chunks(2) {
             state.event(event[0], event[1]);
@@ -114,10 +115,10 @@ fn batches_are_repeatable() {
         .filter(|&x| x == 32_767);
     assert_eq!(most.count(), 2);
     assert_eq!(cases::all(7, 9).len(), 9);
-    let calls = calls::all(7, 760);
-    assert_eq!(calls.count, 760);
-    assert_eq!(calls.output.lines().count(), 760);
-    assert!(calls.input == calls::all(7, 760).input);
+    let calls = calls::all(7, 940);
+    assert_eq!(calls.count, 940);
+    assert_eq!(calls.output.lines().count(), 940);
+    assert!(calls.input == calls::all(7, 940).input);
     assert_eq!(calls::all(7, 3).count, 3);
 }
 
@@ -125,10 +126,10 @@ fn batches_are_repeatable() {
 fn numbers_of_fixed_cases_and_records() {
     for seed in 0..20 {
         let mut rng = Random::new(seed);
-        assert_eq!(cases::fixed(&mut rng).len(), 330);
+        assert_eq!(cases::fixed(&mut rng).len(), 340);
         let mut records = Records::new(usize::MAX);
         calls::fixed(&mut records, &mut rng);
-        assert_eq!(records.count, 697);
+        assert_eq!(records.count, 865);
     }
 }
 
@@ -141,8 +142,9 @@ fn mornings_are_realistic() {
         let fresh = state.clone();
         assert_eq!(state.run(events, &mut journal), 0);
         assert!((300..=400).contains(&(events.len() / 2)));
-        for process in &mut state.processes {
-            process.steps = 0;
+        for process in &mut state.processes[..12] {
+            assert!((4..=7).contains(&process.cost()));
+            (process.steps, process.returns) = (0, 0);
         }
         assert_eq!(state, fresh);
     }

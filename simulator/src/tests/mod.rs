@@ -1,5 +1,8 @@
 //! Unit tests.
 
+mod bounds;
+mod cost_calls;
+mod costs;
 mod generators;
 mod orders;
 mod refusals;

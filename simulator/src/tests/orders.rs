@@ -59,17 +59,17 @@ fn holders(setup: [u8; 4], events: &[u8]) -> [Status; 2] {
     let mut records = [Status {
         stage: 9,
         name: 9,
-        steps: 9,
+        cost: 9,
     }; 2];
     assert_eq!(state.fill_roll(&mut records), 0);
     records
 }
 
-fn holder(name: u8, steps: u8) -> Status {
+fn holder(name: u8, cost: u8) -> Status {
     Status {
         stage: stage::WORKING,
         name,
-        steps,
+        cost,
     }
 }
 
@@ -90,7 +90,7 @@ fn p11_program() {
     let file = worked::p11_file();
     assert_eq!(file.len(), 49);
     let expected = "0 1 - 0\n0 3 - 0\n0 4 0 1\n0 1 - 0\n0 2 - 0\n0 2 - 0\n\
-                    0 5 0 1\n0 5 - 1\n0 0 - 1\n0 3 - 0\n0 4 0 1\n";
+                    0 5 0 1\n0 5 - 2\n0 0 - 2\n0 3 - 0\n0 4 0 1\n";
     assert_eq!(file_text(&file), expected);
 }
 
@@ -104,7 +104,9 @@ fn a_round_gives_everything_back() {
     assert_eq!((state.gate, state.segments[0]), (15, 1));
     assert_eq!((state.counters[1], state.counters[2]), (7, 3));
     accept(&mut state, &[[2, 1], [1, 1], [1, 1], [1, 1], [1, 1]]);
-    state.processes[1].steps = 0;
+    let process = &mut state.processes[1];
+    assert_eq!((process.steps, process.returns), (3, 3));
+    (process.steps, process.returns) = (0, 0);
     assert_eq!(state, start);
 }
 

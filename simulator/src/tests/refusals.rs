@@ -12,14 +12,15 @@ fn refused(state: &State, kind: u8, process: u8, number: u8) {
     assert_eq!(&after, state);
 }
 
-fn with_process(setup: [u8; 4], stage: u8, node: u8, segment: u8, steps: u8) -> State {
+fn with_process(setup: [u8; 4], stage: u8, node: u8, segment: u8, cost: [u8; 2]) -> State {
     let mut state = fresh(setup);
     state.processes[0] = Process {
         stage,
         node,
         segment,
         name: NO_NAME,
-        steps,
+        steps: cost[0],
+        returns: cost[1],
     };
     state
 }
@@ -59,14 +60,21 @@ fn event_order() {
 }
 
 #[test]
-fn steps_at_255() {
+fn getname_at_the_highest_cost() {
     for (node, segment, word) in [(1, 0, 0), (6, 0, 0), (6, 0, 3), (6, 1, 3)] {
-        let mut state = with_process([5, 4, 2, 2], stage::GETNAME, node, segment, 255);
-        state.segments[4..6].fill(word);
-        refused(&state, 1, 0, 15);
-        state.processes[0].steps = 254;
-        assert_eq!(state.event(1, 0), 0);
-        assert_eq!(state.processes[0].steps, 255);
+        for returns in 0..=255 {
+            let cost = [255 - returns, returns];
+            let mut state = with_process([5, 4, 2, 2], stage::GETNAME, node, segment, cost);
+            state.segments[4..6].fill(word);
+            assert!(state.in_range());
+            refused(&state, 1, 0, 15);
+            if cost[0] > 0 {
+                state.processes[0].steps -= 1;
+                assert_eq!(state.event(1, 0), 0);
+                assert_eq!(state.processes[0].steps, cost[0]);
+                assert_eq!(state.processes[0].returns, returns);
+            }
+        }
     }
 }
 
@@ -79,7 +87,7 @@ fn entry_at_the_limits() {
         (1, 64, 0),
         (-63, 63, 0),
     ] {
-        let mut state = with_process([5, 4, 2, 1], stage::ENTRY, 1, 0, 0);
+        let mut state = with_process([5, 4, 2, 1], stage::ENTRY, 1, 0, [0, 0]);
         state.gate = gate;
         state.queue_len = len;
         state.queue[..usize::from(len)].fill(3);
@@ -94,7 +102,7 @@ fn entry_at_the_limits() {
 
 #[test]
 fn putname_at_the_limits() {
-    let mut state = with_process([5, 4, 2, 1], stage::PUTNAME, 4, 0, 0);
+    let mut state = with_process([5, 4, 2, 1], stage::PUTNAME, 4, 0, [0, 0]);
     refused(&state, 1, 0, 15);
     state.processes[0].node = 5;
     assert_eq!(state.event(1, 0), 0);
@@ -138,7 +146,7 @@ fn list_order_and_journal() {
 
 #[test]
 fn a_list_goes_on_after_15() {
-    let mut state = with_process([2, 1, 1, 1], stage::GETNAME, 1, 0, 255);
+    let mut state = with_process([2, 1, 1, 1], stage::GETNAME, 1, 0, [250, 5]);
     let mut journal = [170; 8];
     assert_eq!(state.run(&[1, 0, 0, 1], &mut journal), 0);
     assert_eq!(journal, [15, 255, 255, 255, 0, 1, 255, 0]);
@@ -165,7 +173,7 @@ fn reports() {
     let untouched = Status {
         stage: 9,
         name: 9,
-        steps: 9,
+        cost: 9,
     };
     let mut records = [untouched; 4];
     assert_eq!(state.fill_roll(&mut records[..2]), 15);

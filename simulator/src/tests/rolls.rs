@@ -8,11 +8,11 @@ use crate::{rolls, State, Status};
 const UNTOUCHED: Status = Status {
     stage: 170,
     name: 170,
-    steps: 170,
+    cost: 170,
 };
 
-fn status(stage: u8, name: u8, steps: u8) -> Status {
-    Status { stage, name, steps }
+fn status(stage: u8, name: u8, cost: u8) -> Status {
+    Status { stage, name, cost }
 }
 
 /// Process 0 works, process 1 waits, process 2 rests.
@@ -70,7 +70,7 @@ fn any_state_in_range() {
         let mut lent = [UNTOUCHED; 80];
         assert_eq!(state.fill_roll(&mut lent), 0);
         for (record, p) in lent[..n].iter().zip(&state.processes) {
-            assert_eq!(*record, status(p.stage, p.name, p.steps));
+            assert_eq!(*record, status(p.stage, p.name, p.steps + p.returns));
         }
         assert!(lent[n..].iter().all(|record| *record == UNTOUCHED));
         refused(&state, n - 1, 13);
@@ -86,21 +86,21 @@ fn lines_of_a_roll() {
     records.roll(&State::BLANK, &[0, 0], 0);
     records.roll(&three(), &[], 3);
     let expected = "roll 0 4 0 1 2 255 0 0 255 0 170 170 170\n\
-                    roll 0 0 255 1 3 255 0 0 255 0\n\
+                    roll 0 0 255 2 3 255 0 0 255 0\n\
                     roll 13 170 170 170\nroll 15\n";
     assert_eq!(records.output, expected);
-    assert_eq!(records.input.len(), 4 * 472 + 12 + 2 + 2);
-    assert_eq!(records.input[..470], three().to_image());
-    assert_eq!(records.input[470..472], [0, 4]);
-    assert_eq!(records.input[942..947], [12, 2, 0, 3, 0]);
-    assert_eq!(records.input[955], 3);
+    assert_eq!(records.input.len(), 4 * 536 + 12 + 2 + 2);
+    assert_eq!(records.input[..534], three().to_image());
+    assert_eq!(records.input[534..536], [0, 4]);
+    assert_eq!(records.input[1070..1075], [12, 2, 0, 3, 0]);
+    assert_eq!(records.input[1083], 3);
 }
 
 #[test]
 fn every_kind_breaks_in_the_main_setups() {
     for setup in reached::SETUPS {
         let kinds = broken::kinds(&fresh(setup), 0);
-        assert_eq!(kinds.len(), 15);
+        assert_eq!(kinds.len(), 16);
         assert!(kinds.iter().all(|kind| !kind.is_empty()));
     }
 }
@@ -166,8 +166,8 @@ fn records_play_back() {
         }
         let mut lent = vec![UNTOUCHED; room];
         let mut expected = format!("roll {}", state.fill_roll(&mut lent));
-        for Status { stage, name, steps } in lent {
-            expected.push_str(&format!(" {stage} {name} {steps}"));
+        for Status { stage, name, cost } in lent {
+            expected.push_str(&format!(" {stage} {name} {cost}"));
         }
         assert_eq!(line, expected);
     }
@@ -176,18 +176,18 @@ fn records_play_back() {
 /// Lists of no event and of the most, and broken states with and without.
 #[test]
 fn lists_of_all_lengths() {
-    let read = read(&rolls::all(5, 180).input);
+    let read = read(&rolls::all(5, 223).input);
     let number = |good: bool, bytes: std::ops::RangeInclusive<usize>| {
         read.iter()
             .filter(|(state, events, _)| state.in_range() == good && bytes.contains(&events.len()))
             .count()
     };
-    assert!(number(true, 0..=0) >= 13);
-    assert!(number(true, 2..=24) >= 30);
-    assert!(number(true, 40..=240) >= 28);
+    assert!(number(true, 0..=0) >= 16);
+    assert!(number(true, 2..=24) >= 36);
+    assert!(number(true, 40..=240) >= 32);
     assert!(number(true, 254..=254) >= 1);
-    assert!(number(false, 0..=0) >= 46);
-    assert!(number(false, 2..=254) >= 53);
+    assert!(number(false, 0..=0) >= 61);
+    assert!(number(false, 2..=254) >= 70);
 }
 
 #[test]
@@ -195,13 +195,13 @@ fn batches_of_rolls() {
     for seed in 0..20 {
         let mut records = Records::new(usize::MAX);
         rolls::fixed(&mut records, &mut Random::new(seed));
-        assert_eq!(records.count, 180);
+        assert_eq!(records.count, 223);
     }
-    let first = rolls::all(7, 200);
-    let second = rolls::all(7, 200);
+    let first = rolls::all(7, 250);
+    let second = rolls::all(7, 250);
     assert!(first.input == second.input && first.output == second.output);
-    assert!(first.input.len() < 130_000);
-    assert_eq!(first.output.lines().count(), 200);
+    assert!(first.input.len() < 165_000);
+    assert_eq!(first.output.lines().count(), 250);
     assert!(first.input.starts_with(&rolls::all(7, 9).input));
     assert_eq!(rolls::all(7, 9).count, 9);
 }

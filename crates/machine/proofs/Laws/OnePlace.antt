@@ -14,7 +14,7 @@ use Rattle.machine.specs.Gate.{above0, inQueue, headGone, enter, await, 
 use Rattle.machine.specs.Getname.{descend, probe, getnameStep}
 use Rattle.machine.specs.Putname.{giveBack, climb, putnameStep}
 use Rattle.machine.specs.Range.{ProcessRanges}
-use Rattle.machine.specs.State.{none, noProcess, withNode, processAt, counterAt, wordAt, update, Sized}
+use Rattle.machine.specs.State.{none, noProcess, processAt, counterAt, wordAt, Sized}
 use Rattle.machine.specs.Touches.{Touches, nothing, own, gate, counter, word}
 use Rattle.machine.specs.declared.Done.{Done}
 use Rattle.machine.specs.declared.State.{State}
@@ -63,7 +63,7 @@ module _ (s : State) (p : ℕ) (k : Ranges s) (kp : p < s .setup .processes) whe
   unfolding climb
   climb-touches l =
       let u : ℕ = processAt s p .node / 2 in
-      by-cond (λ (t : State). At (update p (withNode u) t)) (eqb (processAt s p .node % 2) 0)
+      by-cond At (eqb (processAt s p .node % 2) 0)
       (λ _. counter _ u _ (omega arith) (omega (arith, h .node)))
       (λ _. own _)
 

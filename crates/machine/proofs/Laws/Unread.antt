@@ -15,7 +15,7 @@ use Rattle.machine.specs.Getname.{segmentOf, descend, probe, getnameStep
 use Rattle.machine.specs.Putname.{giveBack, climb, putnameStep}
 use Rattle.machine.specs.Range.{counterTest, wordTest, processTest, inRange, ProcessRanges}
 use Rattle.machine.specs.Stage.{remainder, waiting, getname, working}
-use Rattle.machine.specs.State.{done, none, noProcess, withStage, withSegment, withNode, processAt}
+use Rattle.machine.specs.State.{done, none, noProcess, withStage, withSegment, processAt}
 use Rattle.machine.specs.State.{counterAt, withGate, withQueue, withCounter, withWord, withProcess, update}
 use Rattle.machine.specs.Touches.{withArrays, Alike, alike, Same}
 use Rattle.machine.specs.declared.Done.{Done}
@@ -133,17 +133,13 @@ module _ {s : State} (ranges : Ranges s) (p : ℕ) (l : p < s .setup .processes)
   climb-alike : 1 < processAt s p .node → {t : State} → Alike s t → Alike (climb s p) (climb t p)
   unfolding climb
   climb-alike above (alike x k) =
+      let u : ℕ = processAt s p .node / 2 in
+      let a : Alike s (withArrays x s) = alike x k in
       rw (k .process .at p l)
-      (rw (k .counters .at u (omega arith, omega (arith, h .node))) (go (eqb (processAt s p .node % 2) 0) (alike x k)))
-    where
-      u : ℕ
-      u = processAt s p .node / 2
-
-      go : (b : Bool) {t : State} → Alike s t
-          → Alike (update p (withNode u) (cond b (withCounter u (counterAt s u + 1) s) s))
-          (update p (withNode u) (cond b (withCounter u (counterAt s u + 1) t) t))
-      go true a = update-alike p l (withNode u) (counter-alike u (counterAt s u + 1) a)
-      go false a = update-alike p l (withNode u) a
+      (rw (k .counters .at u (omega arith, omega (arith, h .node)))
+      (cond-alike (eqb (processAt s p .node % 2) 0)
+      (λ _. process-alike p _ (counter-alike u (counterAt s u + 1) a))
+      (λ _. process-alike p _ a)))
 
   return-alike : {t : State} → Alike s t → Alike (putnameStep s p) (putnameStep t p)
   unfolding putnameStep

@@ -2,9 +2,10 @@
 use mathlib.Core.Path.{refl}
 use Rattle.machine.proofs.Runs.{machine}
 use Rattle.renaming_claim.specs.Controls.Reached.{Reached}
+use Rattle.renaming_claim.specs.History.{sinceRequest, asked}
 
 pub reached : Reached
-unfolding machine
+unfolding machine sinceRequest asked
 reached =
     record {
       taken-over = refl;
@@ -12,6 +13,10 @@ reached =
       dearest = refl;
       dearest-steps = (refl, refl);
       two-admitted = refl;
+      round-journal = refl;
+      round-figures = (refl, refl);
+      round-parts = refl;
+      round-asked = refl;
       drawn-journal = refl;
       drawn-gate = (refl, refl);
       drawn-nodes = refl;

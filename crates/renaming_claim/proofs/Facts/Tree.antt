@@ -5,6 +5,7 @@
 --     width, firstLeaf    the leaves under a node
 --     width-both, width-level, first-left, first-right    those of the children
 --     width-leaf, first-leaf, width-root, first-root      those of a leaf and of node 1
+--     depth-up         a parent lies one level above its child
 --     depth-le, leaf-level, height-four    no node lies deeper than a leaf, and a leaf at most four levels down
 -- Assumes nothing.
 use Prim.Native.Nat.{ℕ, _+_, _*_, _-_, _/_, _^_, _≤_, _<_}
@@ -46,6 +47,12 @@ under-up u w u32 w0 l = shallow u w u32 w0 (omega arith) (omega arith) ∙ rw (n
 
 pub under-root : (u : ℕ) → 0 < u → u < 32 → ind (under u 1) ≡ ind (eqb u 1)
 under-root u u0 u32 = shallow u 1 u32 (omega arith) (omega arith) (omega arith)
+
+pub depth-up : (w : ℕ) → 1 < w → w < 32 → log2 (w / 2) + 1 ≡ log2 w
+depth-up w w1 w32 =
+    eqb-true _ _
+    (computed 1 32 (λ _ w. ltb 1 w) (λ _ w. eqb (log2 (w / 2) + 1) (log2 w)) (unfold allBelow _⇒_ log2 in refl) 0 w (omega arith) w32
+    (lt-ltb 1 w w1))
 
 -- how many leaves lie under a node, of l, and the first of them
 unfoldable pub width : ℕ → ℕ → ℕ

@@ -46,7 +46,7 @@ module _ {M : ℕ} {s : State} {p : ℕ} (m : Mover M s p) where
       let x : Process = withStage entry freshProcess in
       record {
         shapes = shapes-nameless m x entry refl refl (omega arith)
-            (record { home = record { root = refl; flat = refl; nameless = refl }; steps = refl });
+            (record { home = record { root = refl; flat = refl; nameless = refl }; steps = refl; returns = refl });
         gate = gate-before m x (omega arith) (omega arith);
         bits = bits-same m x (sym (by-stage m remainder e .nameless));
         bounds = stays-out m x (omega arith) (omega arith);
@@ -66,7 +66,12 @@ module _ {M : ℕ} {s : State} {p : ℕ} (m : Mover M s p) where
         let all = admitted-open t gate (ranges-of t r .queue .entries) in
         record {
           shapes = shapes-nameless m x getname refl (k .home .nameless) (shape m .most)
-              (record { nameless = k .home .nameless; flat = λ _. k .home .flat; steps = omega (arith, k .steps, k .home .flat) });
+              (record {
+                nameless = k .home .nameless;
+                flat = λ _. k .home .flat;
+                steps = omega (arith, k .steps, k .home .flat);
+                returns = k .returns;
+              });
           gate = gate;
           bits = bits-same m x refl;
           bounds =
@@ -84,7 +89,11 @@ module _ {M : ℕ} {s : State} {p : ℕ} (m : Mover M s p) where
         let room : s .queued < length (s .queue) = omega (arith, ranges-of queueing r .queue .size, m .sound .valid .sized .queue) in
         record {
           shapes = shapes-nameless m x waiting refl (k .home .nameless) (shape m .most)
-              (record { home = record { root = k .home .root; flat = k .home .flat; nameless = k .home .nameless }; steps = k .steps });
+              (record {
+                home = record { root = k .home .root; flat = k .home .flat; nameless = k .home .nameless };
+                steps = k .steps;
+                returns = k .returns;
+              });
           gate = gate-join m x low (omega arith) shut refl room;
           bits = bits-same m x refl;
           bounds = stays-out m x out (omega arith);

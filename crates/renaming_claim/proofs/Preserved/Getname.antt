@@ -59,7 +59,12 @@ module _ {M : ℕ} {s : State} {p : ℕ} (m : Mover M s p) (st : processAt s p .
         let deep = depth-le (c .leaves) (limits m .leaves) inside in
         record {
           shapes = shapes-nameless m x getname st (claiming .nameless) (omega (arith, claiming .steps, deep, own-range m .segment))
-              (record { nameless = claiming .nameless; flat = λ _. claiming .flat below; steps = omega (arith, claiming .steps) });
+              (record {
+                nameless = claiming .nameless;
+                flat = λ _. claiming .flat below;
+                steps = omega (arith, claiming .steps);
+                returns = claiming .returns;
+              });
           gate = gate-past m x (omega arith) (omega arith);
           bits = bits-same m x refl;
           bounds = bounds;
@@ -127,6 +132,7 @@ module _ {M : ℕ} {s : State} {p : ℕ} (m : Mover M s p) (st : processAt s p .
                     record {
                       named = λ e. omega (arith, limits m .k64, digits-lt r-used k);
                       steps = omega (arith, claiming .steps, level);
+                      returns = claiming .returns;
                     };
               });
           gate = gate-past m x (omega arith) (omega arith);
@@ -146,7 +152,12 @@ module _ {M : ℕ} {s : State} {p : ℕ} (m : Mover M s p) (st : processAt s p .
           = ap (λ (n : ℕ). set (s .words) r n) word ∙ set-getD (s .words) r 0 in
           record {
             shapes = shapes-nameless m x getname st (claiming .nameless) (omega (arith, claiming .steps, level, room))
-                (record { nameless = claiming .nameless; flat = λ l. absurd (omega arith); steps = omega (arith, claiming .steps) });
+                (record {
+                  nameless = claiming .nameless;
+                  flat = λ l. absurd (omega arith);
+                  steps = omega (arith, claiming .steps);
+                  returns = claiming .returns;
+                });
             gate = gate-past m x (omega arith) (omega arith);
             bits = rw unchanged (bits-same m x refl);
             bounds = bounds-next m st leafy (filled (c .bits) full) x (omega arith) refl (omega arith);

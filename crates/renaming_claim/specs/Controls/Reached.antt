@@ -1,10 +1,11 @@
--- Runs that reach what the claim allows: a queue that is served, a name one below the admitted, and a claim of h + g steps. So no field
--- of the claim holds for want of a case. `reached` in proofs/Controls/Reached.antt computes each.
+-- Runs that reach what the claim allows: a queue that is served, a name one below the admitted, a claim of h + g steps, and full rounds
+-- of h + 2 and of 2h + g + 1. So no field of the claim holds for want of a case. `reached` in proofs/Controls/Reached.antt computes each.
 use mathlib.Core.Path.{_≡_}
+use mathlib.Core.Bool.{true, false}
 use mathlib.Core.List.{List, [], _∷_, _++_, map}
-use Prim.Native.Nat.{_+_}
+use Prim.Native.Nat.{_+_, _*_}
 use lib.IntN.{negsuc}
-use lib.ListN.{take}
+use lib.ListN.{take, drop}
 use Rattle.machine.specs.Admitted.{admitted}
 use Rattle.machine.specs.Lists.{Event, eventsOf, journal}
 use Rattle.machine.specs.Reports.{statusOf}
@@ -13,6 +14,7 @@ use Rattle.machine.specs.Stage.{remainder, entry, waiting, getname, working, pu
 use Rattle.machine.specs.Setup.{plain, height}
 use Rattle.machine.specs.State.{none, processAt, counterAt, fresh}
 use Rattle.renaming_claim.specs.Claim.{afterList}
+use Rattle.renaming_claim.specs.History.{returnOperations, asked}
 
 -- one name for two processes: 0 wins it, 1 queues, 0 returns it, 1 goes on and wins it
 abbrev pub served : List Event
@@ -21,6 +23,13 @@ served = eventsOf (request 0 ++ step 0 ++ step 0 ++ request 1 ++ step 1 ++ relea
 -- two leaves of two segments of one bit: 0 and 1 both go left, and 1 finds the first segment full
 abbrev pub costly : List Event
 costly = eventsOf (request 0 ++ step 0 ++ step 0 ++ step 0 ++ request 1 ++ step 1 ++ step 1 ++ step 1 ++ step 1)
+
+-- the same setup for three: 0 and 1 have gone left, so 2 goes right and finds the first segment free; then 1 and 2 return
+abbrev pub rounds : List Event
+rounds =
+    costly
+    ++ eventsOf
+    (request 2 ++ step 2 ++ step 2 ++ step 2 ++ release 1 ++ step 1 ++ step 1 ++ step 1 ++ release 2 ++ step 2 ++ step 2 ++ step 2)
 
 -- the state drawn in docs/PROOF.md: five processes, two leaves of two segments of one bit
 abbrev pub drawn : List Event
@@ -41,8 +50,8 @@ pub record Reached : Type 0 where
       ++ line 0 entry none 0
       ++ line 0 waiting none 0
       ++ line 0 putname 0 1
-      ++ line 0 putname none 1
-      ++ line 0 remainder none 1
+      ++ line 0 putname none 2
+      ++ line 0 remainder none 2
       ++ line 0 getname none 0
       ++ line 0 working 0 1
   pub one-admitted : admitted (afterList (plain 2 1 1 1) (take 5 served)) ≡ 1
@@ -59,13 +68,29 @@ pub record Reached : Type 0 where
       ++ line 0 working 1 3
   pub dearest-steps : (height 2 + 1 ≡ 2) × (height 2 + 2 ≡ 3)
   pub two-admitted : admitted (afterList (plain 2 2 2 1) costly) ≡ 2
+  -- the dearest round, by the left, shows 2h + g + 1; the cheapest, by the right, shows h + 2; process 0 is still working
+  pub round-journal : drop 44 (journal (fresh (plain 3 2 2 1)) rounds)
+      ≡ line 0 getname none 1
+      ++ line 0 working 2 2
+      ++ line 0 putname 1 3
+      ++ line 0 putname none 4
+      ++ line 0 putname none 5
+      ++ line 0 remainder none 5
+      ++ line 0 putname 2 2
+      ++ line 0 putname none 3
+      ++ line 0 putname none 3
+      ++ line 0 remainder none 3
+  pub round-figures : (2 * height 2 + 2 + 1 ≡ 5) × (height 2 + 2 ≡ 3)
+  pub round-parts : map (λ p. returnOperations p (fresh (plain 3 2 2 1)) rounds 0) (0 ∷ 1 ∷ 2 ∷ []) ≡ 0 ∷ 2 ∷ 1 ∷ []
+  -- an idle process that has not asked, and one that has
+  pub round-asked : map (λ p. asked p (fresh (plain 3 2 2 1)) (take 4 rounds)) (0 ∷ 1 ∷ []) ≡ true ∷ false ∷ []
   -- the drawing: 0 holds name 0; 1 and 2 are in getname, at segment 1 of the left leaf and at the right leaf; 3 has just come in; 4 waits
   pub drawn-journal : map (λ p. statusOf (processAt (afterList (plain 5 2 2 1) drawn) p)) (0 ∷ 1 ∷ 2 ∷ 3 ∷ 4 ∷ [])
-      ≡ record { stage = working; name = 0; steps = 2 }
-      ∷ record { stage = getname; name = none; steps = 2 }
-      ∷ record { stage = getname; name = none; steps = 1 }
-      ∷ record { stage = getname; name = none; steps = 0 }
-      ∷ record { stage = waiting; name = none; steps = 0 }
+      ≡ record { stage = working; name = 0; figure = 2 }
+      ∷ record { stage = getname; name = none; figure = 2 }
+      ∷ record { stage = getname; name = none; figure = 1 }
+      ∷ record { stage = getname; name = none; figure = 0 }
+      ∷ record { stage = waiting; name = none; figure = 0 }
       ∷ []
   pub drawn-gate : (afterList (plain 5 2 2 1) drawn .gate ≡ negsuc 0) × (admitted (afterList (plain 5 2 2 1) drawn) ≡ 4)
   pub drawn-nodes : map (λ p. processAt (afterList (plain 5 2 2 1) drawn) p .node) (0 ∷ 1 ∷ 2 ∷ 3 ∷ 4 ∷ []) ≡ 2 ∷ 2 ∷ 3 ∷ 1 ∷ 1 ∷ []

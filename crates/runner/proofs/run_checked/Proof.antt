@@ -14,8 +14,8 @@ use Rattle.machine.proofs.Ranges.{ranges-of}
 use Rattle.machine.proofs.Valid.{Valid, event-valid}
 use Rattle.fresh.proofs.Accepted.{leaves-16}
 use Rattle.operations.specs.declared.place.Place.{Place}
-use Rattle.runner.proofs.Arms.{Turn, told, Stored, stored-as, own, gate, queue, counter, segment, bit, parent, root, wrote}
-use Rattle.runner.proofs.Arms.{kind-done, stranger-done, unshown}
+use Rattle.runner.proofs.Arms.{Turn, told, Stored, stored-as, own, gate, queue, counter, segment, bit, parent, root}
+use Rattle.runner.proofs.Arms.{byte, wrote, kind-done, stranger-done, unshown}
 use Rattle.runner.proofs.Going.{Going, next, finish}
 use Rattle.runner.proofs.Used.{Used, used-at}
 use Rattle.runner.proofs.run_checked.Statement.{statement}
@@ -112,7 +112,7 @@ met c =
     (λ w. stored-as t (w .5) (w .6) (w .7) (queue t (e ∙ w .1 .given .1) (w .4 .ensures)))
     (λ w. stored-as t (w .6) (w .7) (w .8) (counter t (e ∙ w .1 .given .1) (w .4 .ensures)))
     (λ w. stored-as t (w .7) (w .8) (w .9) (segment t (e ∙ w .1 .given .1) (w .5 .ensures)))
-    (λ w. stored-as t (w .5) (w .6) (w .7) (bit t (e ∙ w .1 .given .1) (w .4 .ensures)))
+    (λ w. stored-as t (w .6) (w .7) (w .8) (bit t (e ∙ w .1 .given .1) (w .4 .ensures)))
     (λ w. stored-as t (w .7) (w .8) (w .9) (parent t (e ∙ w .1 .given .1) (w .5 .ensures)))
     (λ w.
     stored-as t (w .9) (w .10) (w .11)
@@ -120,6 +120,12 @@ met c =
     (toZ-ofZ {w = w8} {z = w .6 .result .gate} (search needs))
     (rw (w .3 .ensures) at (w .6 .ensures .0)) (rw (w .3 .ensures) at (w .6 .ensures .1))))
     (c .match .came)
+
+-- the entry has its four bytes, and the record's figure is one
+entry-fits : tie.Need-log-requires Inv-loop μ-loop
+entry-fits c κs =
+    let meet = c .before in
+    (omega arith, byte (turn (knew (meet .before))) (meet .match .t) (meet .match .x) (meet .match .answer) (met meet))
 
 served : tie.Need-loop-again-3 Inv-loop μ-loop
 served c =
@@ -176,7 +182,7 @@ run-checked-spec =
     let valid = turn (knew (c .before .before .before .before .before .before)) .valid in
     (omega (arith, c .before .before .names-of .ensures, valid .ranges .limits .k64), valid .sized .queue))
     -- the record is stored, and the entry written
-    (λ c. omega (arith, process-64 (knew (c .before)))) (λ c. process-64 (knew (c .before))) (λ c κs. omega arith)
+    (λ c. omega (arith, process-64 (knew (c .before)))) (λ c. process-64 (knew (c .before))) entry-fits
     (λ c. omega arith) served
     -- after the loop
     (λ c. c .before .loop .inv .0 .same) (λ c. finish (c .before .loop .inv .0) (c .loop-test .left)))

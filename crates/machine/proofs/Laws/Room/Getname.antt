@@ -1,4 +1,4 @@
--- Stage 3: a getname step stays in range exactly when one step more is at most 255. Node, segment, name, counter and word stay
+-- Stage 3: a getname step stays in range exactly when its figure has room for one step more. Node, segment, name, counter and word stay
 -- in range whatever the step does. Assumes nothing.
 use Prim.Native.Nat.{ℕ, _+_, _*_, _≤_, _<_}
 use lib.Arith.{digits-lt}
@@ -9,16 +9,17 @@ use Rattle.machine.specs.Getname.{moved, claimed, side, outcome, segment
 use Rattle.machine.specs.Operations.{setFirstZero, boundedDecrement}
 use Rattle.machine.specs.Range.{inRange, ProcessRanges}
 use Rattle.machine.specs.Room.{getnameRoom}
-use Rattle.machine.specs.State.{processAt, counterAt, wordAt, freshCounter, withCounter, withWord, update}
+use Rattle.machine.specs.State.{figure, processAt, counterAt, wordAt, freshCounter, withCounter, withWord, update}
 use Rattle.machine.specs.declared.ClaimStep.{ClaimStep}
 use Rattle.machine.specs.declared.State.{State}
 use Rattle.machine.proofs.Facts.Tests.{by-cond, same-test}
 use Rattle.machine.proofs.Facts.Words.{set-first-zero-lt, decremented-le}
+use Rattle.machine.proofs.Own.{claimed-returns}
 use Rattle.machine.proofs.Places.{leaf-segment}
 use Rattle.machine.proofs.Ranges.{Ranges, ranges-of, in-range}
 use Rattle.machine.proofs.Stores.{new-stage, new-node, own-record, store-process, store-counter, store-word}
 
--- a step whose other numbers are in range has room exactly when its steps have
+-- a step whose other numbers are in range has room exactly when its figure has
 claim-room : (t : State) (p : ℕ) → Ranges t → p < t .setup .processes → length (t .process) ≡ 64 → (c : ClaimStep)
     → ProcessRanges (t .setup) (moved c (processAt t p))
     → inRange (update p (claimed c) t) ≡ getnameRoom t p
@@ -26,7 +27,7 @@ claim-room t p k kp e c m =
     same-test _ (getnameRoom t p)
     (λ i.
     let own = rw (own-record t k p (claimed c (processAt t p)) kp e) at (ranges-of (update p (claimed c) t) i .process p kp) in
-    lt-ltb (processAt t p .steps) 255 (omega (arith, own .steps)))
+    lt-ltb (figure (processAt t p)) 255 (omega (arith, own .shown, claimed-returns c (processAt t p))))
     (λ i.
     in-range _
     (store-process t k p _
@@ -36,7 +37,7 @@ claim-room t p k kp e c m =
       node = m .node;
       segment = m .segment;
       name = m .name;
-      steps = omega (arith, ltb-true (processAt t p .steps) 255 i);
+      shown = omega (arith, ltb-true (figure (processAt t p)) 255 i, claimed-returns c (processAt t p));
     })))
 
 module _ (s : State) (p : ℕ) (k : Ranges s) (kp : p < s .setup .processes) (sized : length (s .process) ≡ 64) where
@@ -66,11 +67,11 @@ module _ (s : State) (p : ℕ) (k : Ranges s) (kp : p < s .setup .processes) (si
         node = h .node;
         segment = h .segment;
         name = λ _. digits-lt l (ltb-true m (s .setup .bits) e);
-        steps = h .steps;
+        shown = h .shown;
       })
       (λ _.
       by-cond InRange (ltb (processAt s p .segment + 1) (s .setup .segments))
-      (λ e. record { stage = h .stage; node1 = h .node1; node = h .node; segment = ltb-true _ _ e; name = h .name; steps = h .steps })
+      (λ e. record { stage = h .stage; node1 = h .node1; node = h .node; segment = ltb-true _ _ e; name = h .name; shown = h .shown })
       (λ _. new-stage 6 (omega arith) h))
 
   descend-room : processAt s p .node < s .setup .leaves → inRange (descend s p) ≡ getnameRoom s p

@@ -1,27 +1,42 @@
 -- `probe` meets its contract: the operation, its outcome, the claim, or 15. Assumes nothing.
-use Rattle.machine.proofs.Rules.{needs, lt-ltb, le-ltb}
+use Rattle.machine.proofs.Rules.{_∙_, sym, arith, needs}
 use Rattle.operations.specs.Moves.{probed}
 use Rattle.machine.proofs.Ranges.{limits-of}
 use Rattle.operations.proofs.Segments.{names-64}
+use Rattle.operations.proofs.Rooms.{room-of}
 use Rattle.operations.proofs.getname.probe.Statement.{statement}
 use Rattle.operations.proofs.getname.probe.Tie as tie
+
+-- below 255 in the sum
+room : tie.Need-claim-requires
+room c κs =
+    let taken = c .before .before in
+    let asked = taken .before in
+    omega (arith, room-of (asked .before .args .h) (asked .has-room .ensures) (taken .if1 .taken))
 
 returns : tie.Need-returns
 unfolding probed
 returns c =
     let op = c .before .before in
-    simp (lt-ltb _ _ (op .before .if1 .taken), c .claim .ensures, c .before .outcome-of .ensures, op .set-first-zero .ensures)
+    let asked = op .before .before in
+    simp (
+      sym (asked .has-room .ensures) ∙ op .before .if1 .taken,
+      c .claim .ensures,
+      c .before .outcome-of .ensures,
+      op .set-first-zero .ensures,
+    )
 
 pub probe-spec : {M : Type 1} → statement M
 probe-spec =
     tie.close
     (tie.spec
+    (λ c κs. search needs)
     -- a step: the three calls
     (λ c κs. let told = c .before .before .pre .0 in limits-of _ (told .accepted) .b8)
     (λ c κs.
     let start = c .before .before .before in
     let told = start .pre .0 in
     (told .ranges .segment, names-64 _ _ (told .accepted) (start .pre .1)))
-    (λ c κs. search needs) returns
+    room returns
     -- no room for one
-    (λ c. unfold probed in simp (le-ltb _ _ (c .if1 .left))))
+    (λ c. unfold probed in simp (sym (c .before .has-room .ensures) ∙ c .if1 .left)))

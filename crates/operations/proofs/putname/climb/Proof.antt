@@ -1,17 +1,39 @@
--- `climb` meets its contract: the counter rises below its fresh value, or 15. Assumes nothing.
-use Rattle.machine.proofs.Rules.{needs, tests}
+-- `climb` meets its contract: the counter rises below its fresh value, with one return operation more, or 15. Assumes nothing.
+use Rattle.machine.proofs.Rules.{_∙_, sym, ⊎-elim, and-false, needs, lt-ltb, le-ltb}
 use Rattle.operations.specs.Moves.{climbed}
+use Rattle.operations.proofs.Rooms.{room-of}
 use Rattle.operations.proofs.putname.climb.Statement.{statement}
 use Rattle.operations.proofs.putname.climb.Tie as tie
+
+room : tie.Need-returned-requires
+room c κs = room-of (c .before .before .before .before .args .h) (c .before .has-room .ensures) (c .if2 .taken)
+
+returns : tie.Need-returns
+unfolding climbed
+returns c =
+    let taken = c .before in
+    let below = taken .before .before in
+    simp (
+      lt-ltb _ _ (rw (below .before .fresh-counter .ensures) at (below .if1 .taken)),
+      sym (taken .before .has-room .ensures) ∙ taken .if2 .taken,
+      c .returned .ensures,
+    )
+
+refused : tie.Need-returns-2
+unfolding climbed
+refused c =
+    ⊎-elim
+    (λ z. simp (sym (z .1 .ensures) ∙ z .2 .left, and-false))
+    (λ z. simp (le-ltb _ _ (rw (c .before .fresh-counter .ensures) at (z .left))))
+    (c .if1 .came)
 
 pub climb-spec : {M : Type 1} → statement M
 climb-spec =
     tie.close
     (tie.spec
-    -- the fresh value
-    (λ c κs. c .pre)
-    -- the counter rises
-    (λ c. search needs)
-    (λ c. unfold climbed in search (tests, rw (c .before .fresh-counter .ensures) at (c .if1 .taken)))
-    -- or has no room
-    (λ c. unfold climbed in search (tests, rw (c .before .fresh-counter .ensures) at (c .if1 .left))))
+    -- the fresh value, and the room for one more
+    (λ c κs. c .pre) (λ c κs. search needs) room
+    -- both rise
+    (λ c. search needs) returns
+    -- or one has no room
+    refused)

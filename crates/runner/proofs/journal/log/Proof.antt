@@ -10,8 +10,9 @@ hidden c =
 
 shown : tie.Need-returns-2
 shown c =
-    let test = c .before .before .before .before in
-    simp (sym (test .before .shows-none .ensures) ∙ test .if1 .left) (c .before .before .put42 .ensures)
+    let figured = c .before .before .before .before in
+    let test = figured .before in
+    simp (sym (test .before .shows-none .ensures) ∙ test .if1 .left, ← figured .figure .ensures) (c .before .before .put42 .ensures)
 
 pub log-spec : {M : Type 1} → statement M
 log-spec =
@@ -20,4 +21,4 @@ log-spec =
     -- an answer that shows no process
     (λ c κs. search needs) (λ c κs. search needs) (λ c. search needs) hidden
     -- any other
-    (λ c κs. search needs) (λ c. search needs) shown)
+    (λ c κs. c .before .before .before .pre .1) (λ c κs. search needs) (λ c. search needs) shown)

@@ -146,8 +146,8 @@ module _ {M : Type 1} (Z : World M) where
           move ! (places 1 5) $
           move ! (places 19 3) $ opens-slice ! tt R (list .now) (list .ptr .0) (list .ptr .1) $ move ! (places 4 19) $
           forget ! 3 refl $ forget ! 7 refl $ forget ! 8 refl $ forget ! 9 refl $
-          by ! (filled Z p bs (is-l .1 .0 .1) (accepted state (list .now) ok .0) (accepted state (list .now) ok .1) (known .records) Left
-          (ends ok (is-l .1 .0 .1))))))))))
+          let fits = accepted state (list .now) ok in
+          by ! (filled Z p bs (is-l .1 .0 .1) (fits .0) (fits .1) (fits .2) (known .records) Left (ends ok (is-l .1 .0 .1))))))))))
 
     -- the locals are allocated, and the arguments stored
     walk : Callees → ent 𝓤 (onEntry 𝓤 H A fill′.signature (κ, tt) (q, tt) (args p) (values p))

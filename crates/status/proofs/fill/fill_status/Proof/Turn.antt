@@ -12,14 +12,14 @@ use lib.WfN.{Nat·lt-wfRel}
 use types.Kit.{put}
 use borrow.Author.Tests.{lt-ltb}
 use Rattle.machine.specs.Reports.{statusOf}
-use Rattle.machine.specs.State.{noProcess, processAt}
+use Rattle.machine.specs.State.{noProcess, figure, processAt}
 pub use Rattle.machine.specs.declared.Process.{Process}
 pub use Rattle.machine.specs.declared.Status.{Status}
 use Rattle.status.proofs.record.status_of as status-of
 use Rattle.status.proofs.fill.fill_status.Code as code
 use Rattle.status.proofs.Written.{written, written-length, written-more}
 pub use Rattle.status.proofs.Lent.{R, processes, records, Passed, machine, slice}
-use Rattle.status.proofs.Walk.{zero, suc, _+_, _*_, _<_, _^_, set, guard, exI, guardI, fobs, fauth, fobor, afterTurn, raw, any}
+use Rattle.status.proofs.Walk.{zero, suc, _+_, _*_, _<_, _^_, set, emp, guard, exI, guardI, fobs, fauth, fobor, afterTurn, raw, any}
 use Rattle.status.proofs.Walk.{given, pick, learn, rewrite, put, look-raw, store, store-raw, hop, addr, assigns, assigns-last, stays}
 use Rattle.status.proofs.Walk.{Below, again, loops, heres, codedHoleys, elem-back, elem-put, address, takes}
 pub use Rattle.status.proofs.Walk.{_≡_, refl, _∙_, ap, subst, List, [], _∷_, _++_, none, some, ℕ, _≤_, arith, length, fullShare, w64}
@@ -30,7 +30,7 @@ pub use Rattle.status.proofs.Walk.{had, var, equals, sets, asks}
 
 -- how many bytes the records take
 abbrev processBytes : ℕ
-processBytes = 5
+processBytes = 6
 
 abbrev statusBytes : ℕ
 statusBytes = 3
@@ -74,7 +74,8 @@ module _ {M : Type 1} (Z : World M) (p : Passed) (bs : Blocks (code.function .lo
     written-long i small =
         written-length statusOf (state .process) i (list .now) (omega (arith, small, n64, sized)) (omega (arith, small, enough))
 
-    module _ (known : Knows Z status-of.Symbol.name status-of.ended (status-of.clauses 𝓤 H A mem run)) (Left : Out → SProp 𝓤) where
+    module _ (shown : (i : ℕ) → i < n → figure (processAt state i) ≤ 255)
+        (known : Knows Z status-of.Symbol.name status-of.ended (status-of.clauses 𝓤 H A mem run)) (Left : Out → SProp 𝓤) where
       more : (i : ℕ) (X : SProp 𝓤) → i < n → ent 𝓤 (⋆ 𝓤 H A (At (suc i))) X → Goes Left i X
       unfolding afterTurn
       more i X small k =
@@ -100,7 +101,8 @@ module _ {M : Type 1} (Z : World M) (p : Passed) (bs : Blocks (code.function .lo
           elem-back ! (processes .row) fullShare (state .process) i noProcess (processes .vals h) l₅ 0 in-list $ move ! (places 1 5) $
           -- record::status_of
           asks ! 𝓣 (status-of.clauses 𝓤 H A mem run) known (h, tt) (processes .vals h, tt) (processes .makes 𝓤 H A W, tt) (is-h, tt) tt
-          (id⊢ 𝓤 _) (and-then ! (var ! 15 refl) (no-more !)) (λ v r ws is. heard ! (r ≡ statusOf h) (λ e.
+          (guardI 𝓤 (figure h ≤ 255) (emp 𝓤) (shown i small)) (and-then ! (var ! 15 refl) (no-more !)) (λ v r ws is.
+          heard ! (r ≡ statusOf h) (λ e.
           land ! (from ! (stop !)) (init ! 11 refl (records .lawful 𝓤 H A W .typed r _ is .0)) $
           -- records[i] = .., in whose place stands another: meanwhile _11 stands at 14, and _17 at 20
           sets ! 16 (bin ! (var ! 6 refl) (lit ! tt) (record { fits = at-records })) refl (tt, record { fits = at-records }) $

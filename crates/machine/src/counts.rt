@@ -1,0 +1,28 @@
+// What a process has counted since its last request: getname steps and return operations together.
+use crate::Process;
+ghost use mathlib.Core.Path.{_≡_};
+ghost use Prim.Native.Nat.{_≤_};
+ghost use Rattle.machine.specs.Room.{hasRoom};
+ghost use Rattle.machine.specs.State;
+
+// The sum of both; two bytes may pass 255.
+pub fn sum(h: Process) -> u16
+    ensures { λ r. ⌜ r ≡ State.figure h ⌝ }
+{
+    h.steps as u16 + h.returns as u16
+}
+
+// The sum in range, which the journal and the status records show.
+pub fn figure(h: Process) -> u8
+    requires { ⌜ State.figure h ≤ 255 ⌝ }
+    ensures { λ r. ⌜ r ≡ State.figure h ⌝ }
+{
+    h.steps + h.returns
+}
+
+// Has it room for one more?
+pub fn has_room(h: Process) -> bool
+    ensures { λ r. ⌜ r ≡ hasRoom h ⌝ }
+{
+    sum(h) < 255
+}
