@@ -48,6 +48,7 @@ enter s p =
 unfoldable pub await : State → ℕ → State
 await s p = cond (inQueue s p) s (update p (withStage getname) s)
 
--- Stage 5 with no name at node 1: the queue's head, if there is one, leaves; A rises by 1; stage 0, segment 0, steps kept.
+-- Stage 5 with no name at node 1: the queue's head, if there is one, leaves; A rises by 1; stage 0, segment 0; steps and
+-- return operations kept.
 unfoldable pub leave : State → ℕ → State
 leave s p = update p (λ h. withStage remainder (withSegment 0 h)) (raised (headGone s))

@@ -9,6 +9,7 @@ use machine::stage;
 ghost use mathlib.Core.Path.{_≡_};
 ghost use Prim.Native.Nat.{_+_, _*_, _≤_, _<_};
 ghost use Rattle.machine.specs.Getname.{claimed, side, outcome};
+ghost use Rattle.machine.specs.State.{figure};
 ghost use Rattle.operations.specs.Places.{Setting};
 ghost use Rattle.operations.specs.Moves.{descended, probed};
 
@@ -48,7 +49,7 @@ fn outcome_of(setup: Setup, r: u8, i: u8, m: u8) -> ClaimStep
 
 // What a getname step makes of the process.
 fn claim(c: ClaimStep, h: Process) -> Process
-    requires { ⌜ h .steps < 255 ⌝ }
+    requires { ⌜ figure h < 255 ⌝ }
     ensures { λ r. ⌜ r ≡ claimed c h ⌝ }
 {
     let mut x = h;

@@ -50,14 +50,16 @@ pub fn climb(h: Process, u: u8, c: u8, setup: Setup) -> Moved
     requires { ⌜ setupAnswer setup ≡ 0 ⌝ }
     ensures { λ r. ⌜ r ≡ climbed setup u h c ⌝ }
 {
-    if c < counter::fresh_counter(setup, u) && counts::has_room(h) {
-        let mut x = returned(h);
-        x.node = u;
-        return Moved {
-            process: x,
-            word: c + 1,
-            answer: answer::ACCEPTED,
-        };
+    if c < counter::fresh_counter(setup, u) {
+        if counts::has_room(h) {
+            let mut x = returned(h);
+            x.node = u;
+            return Moved {
+                process: x,
+                word: c + 1,
+                answer: answer::ACCEPTED,
+            };
+        }
     }
     Moved {
         process: h,

@@ -82,7 +82,7 @@ pub record Reached : Type 0 where
       ++ line 0 remainder none 3
   pub round-figures : (2 * height 2 + 2 + 1 ≡ 5) × (height 2 + 2 ≡ 3)
   pub round-parts : map (λ p. returnOperations p (fresh (plain 3 2 2 1)) rounds 0) (0 ∷ 1 ∷ 2 ∷ []) ≡ 0 ∷ 2 ∷ 1 ∷ []
-  -- an idle process that has not asked, and one that has
+  -- after four events process 0 has asked, and 1, still idle, has not
   pub round-asked : map (λ p. asked p (fresh (plain 3 2 2 1)) (take 4 rounds)) (0 ∷ 1 ∷ []) ≡ true ∷ false ∷ []
   -- the drawing: 0 holds name 0; 1 and 2 are in getname, at segment 1 of the left leaf and at the right leaf; 3 has just come in; 4 waits
   pub drawn-journal : map (λ p. statusOf (processAt (afterList (plain 5 2 2 1) drawn) p)) (0 ∷ 1 ∷ 2 ∷ 3 ∷ 4 ∷ [])

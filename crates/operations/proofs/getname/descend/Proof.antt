@@ -1,16 +1,9 @@
 -- `descend` meets its contract: the operation, the side, the claim, or 15. Assumes nothing.
-use Rattle.machine.proofs.Rules.{_∙_, sym, arith, needs}
+use Rattle.machine.proofs.Rules.{_∙_, sym, needs}
 use Rattle.operations.specs.Moves.{descended}
 use Rattle.operations.proofs.Rooms.{room-of}
 use Rattle.operations.proofs.getname.descend.Statement.{statement}
 use Rattle.operations.proofs.getname.descend.Tie as tie
-
--- below 255 in the sum
-room : tie.Need-claim-requires
-room c κs =
-    let taken = c .before .before in
-    let asked = taken .before in
-    omega (arith, room-of (asked .before .args .h) (asked .has-room .ensures) (taken .if1 .taken))
 
 returns : tie.Need-returns
 unfolding descended
@@ -30,6 +23,10 @@ descend-spec =
     (tie.spec
     (λ c κs. search needs)
     -- a step: the three calls
-    (λ c κs. search needs) (λ c κs. search needs) room returns
+    (λ c κs. search needs) (λ c κs. search needs)
+    (λ c κs.
+    let taken = c .before .before in
+    room-of (taken .before .before .args .h) (taken .before .has-room .ensures) (taken .if1 .taken))
+    returns
     -- no room for one
     (λ c. unfold descended in simp (sym (c .before .has-room .ensures) ∙ c .if1 .left)))

@@ -1,18 +1,11 @@
 -- `probe` meets its contract: the operation, its outcome, the claim, or 15. Assumes nothing.
-use Rattle.machine.proofs.Rules.{_∙_, sym, arith, needs}
+use Rattle.machine.proofs.Rules.{_∙_, sym, needs}
 use Rattle.operations.specs.Moves.{probed}
 use Rattle.machine.proofs.Ranges.{limits-of}
 use Rattle.operations.proofs.Segments.{names-64}
 use Rattle.operations.proofs.Rooms.{room-of}
 use Rattle.operations.proofs.getname.probe.Statement.{statement}
 use Rattle.operations.proofs.getname.probe.Tie as tie
-
--- below 255 in the sum
-room : tie.Need-claim-requires
-room c κs =
-    let taken = c .before .before in
-    let asked = taken .before in
-    omega (arith, room-of (asked .before .args .h) (asked .has-room .ensures) (taken .if1 .taken))
 
 returns : tie.Need-returns
 unfolding probed
@@ -37,6 +30,9 @@ probe-spec =
     let start = c .before .before .before in
     let told = start .pre .0 in
     (told .ranges .segment, names-64 _ _ (told .accepted) (start .pre .1)))
-    room returns
+    (λ c κs.
+    let taken = c .before .before in
+    room-of (taken .before .before .args .h) (taken .before .has-room .ensures) (taken .if1 .taken))
+    returns
     -- no room for one
     (λ c. unfold probed in simp (sym (c .before .has-room .ensures) ∙ c .if1 .left)))

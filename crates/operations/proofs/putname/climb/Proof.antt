@@ -1,5 +1,5 @@
 -- `climb` meets its contract: the counter rises below its fresh value, with one return operation more, or 15. Assumes nothing.
-use Rattle.machine.proofs.Rules.{_∙_, sym, ⊎-elim, and-false, needs, lt-ltb, le-ltb}
+use Rattle.machine.proofs.Rules.{_∙_, sym, and-false, needs, lt-ltb, le-ltb}
 use Rattle.operations.specs.Moves.{climbed}
 use Rattle.operations.proofs.Rooms.{room-of}
 use Rattle.operations.proofs.putname.climb.Statement.{statement}
@@ -19,14 +19,6 @@ returns c =
       c .returned .ensures,
     )
 
-refused : tie.Need-returns-2
-unfolding climbed
-refused c =
-    ⊎-elim
-    (λ z. simp (sym (z .1 .ensures) ∙ z .2 .left, and-false))
-    (λ z. simp (le-ltb _ _ (rw (c .before .fresh-counter .ensures) at (z .left))))
-    (c .if1 .came)
-
 pub climb-spec : {M : Type 1} → statement M
 climb-spec =
     tie.close
@@ -35,5 +27,6 @@ climb-spec =
     (λ c κs. c .pre) (λ c κs. search needs) room
     -- both rise
     (λ c. search needs) returns
-    -- or one has no room
-    refused)
+    -- or the figure has no room, or the counter
+    (λ c. unfold climbed in simp (sym (c .before .has-room .ensures) ∙ c .if2 .left, and-false))
+    (λ c. unfold climbed in simp (le-ltb _ _ (rw (c .before .fresh-counter .ensures) at (c .if1 .left)))))
