@@ -3,6 +3,7 @@ pub mod Tests
 pub mod Below
 pub mod Lists
 pub mod Rows
+pub mod Sums
 pub mod Words
 pub mod Leaves
 pub mod Checks

@@ -1,15 +1,24 @@
-// What a process has counted since its last request: getname steps and return operations together.
+// What a process has counted since its last request, getname steps and return operations together. The tests are in bytes: one number
+// against what the other leaves of 255.
 use crate::Process;
 ghost use mathlib.Core.Path.{_≡_};
 ghost use Prim.Native.Nat.{_≤_};
+ghost use lib.Dec.{leb};
 ghost use Rattle.machine.specs.Room.{hasRoom};
 ghost use Rattle.machine.specs.State;
 
-// The sum of both; two bytes may pass 255.
-pub fn sum(h: Process) -> u16
-    ensures { λ r. ⌜ r ≡ State.figure h ⌝ }
+// Is the sum in range?
+pub fn within(h: Process) -> bool
+    ensures { λ r. ⌜ r ≡ leb (State.figure h) 255 ⌝ }
 {
-    h.steps as u16 + h.returns as u16
+    h.returns <= 255 - h.steps
+}
+
+// Has it room for one more?
+pub fn has_room(h: Process) -> bool
+    ensures { λ r. ⌜ r ≡ hasRoom h ⌝ }
+{
+    h.returns < 255 - h.steps
 }
 
 // The sum in range, which the journal and the status records show.
@@ -18,11 +27,4 @@ pub fn figure(h: Process) -> u8
     ensures { λ r. ⌜ r ≡ State.figure h ⌝ }
 {
     h.steps + h.returns
-}
-
-// Has it room for one more?
-pub fn has_room(h: Process) -> bool
-    ensures { λ r. ⌜ r ≡ hasRoom h ⌝ }
-{
-    sum(h) < 255
 }

@@ -148,7 +148,7 @@ fn process_in_range(h: Process, setup: Setup) -> bool
     if h.segment >= setup.segments {
         return false;
     }
-    if counts::sum(h) > 255 {
+    if !counts::within(h) {
         return false;
     }
     is_name(limits::names_of(setup), h.name)

@@ -1,6 +1,6 @@
 -- `process_in_range` meets its contract: the tests one by one. Assumes nothing.
 use Prim.Native.Nat.{_≤_}
-use Rattle.machine.proofs.Rules.{and-true, and-false, arith, needs, le-leb, lt-leb, lt-ltb, tests}
+use Rattle.machine.proofs.Rules.{_∙_, sym, not-true, not-false, and-true, and-false, arith, needs, le-leb, lt-ltb, tests}
 use Rattle.machine.proofs.Ranges.{limits-of}
 use Rattle.fresh.proofs.Accepted.{leaves-16}
 use Rattle.ranges.proofs.range.process_in_range.Statement.{statement}
@@ -22,7 +22,7 @@ name-decides c =
       le-leb _ _ (past-root .if2 .left),
       lt-ltb _ _ (past-node .if3 .left),
       lt-ltb _ _ (past-segment .if4 .left),
-      le-leb _ _ (rw (past-sum .before .sum .ensures) at (past-sum .if5 .left)),
+      sym (past-sum .before .within .ensures) ∙ not-false _ (past-sum .if5 .left),
       and-true,
     )
     (rw (c .before .names-of .ensures) at (c .is-name .ensures))
@@ -39,7 +39,7 @@ process-in-range-spec =
     (λ c. omega (arith, leaves (c .before .before .before .before .before))) (λ c. search tests)
     -- `h.segment >= setup.segments`
     (λ c. search tests)
-    -- `counts::sum(h) > 255`
-    (λ c κs. search needs) (λ c. simp (lt-leb _ _ (rw (c .before .sum .ensures) at (c .if5 .taken)), and-false))
+    -- `!counts::within(h)`
+    (λ c κs. search needs) (λ c. simp (sym (c .before .within .ensures) ∙ not-true _ (c .if5 .taken), and-false))
     -- the name
     (λ c κs. search needs) (λ c κs. search needs) name-decides)
