@@ -93,14 +93,36 @@ static void check_returns(void) {
     is("answer of the roll", zevgorim_fill_status(s, roll, 2), 0);
     is("figure of the roll", roll[0].figure, 4);
 
-    s.process[0].returns = 254;
-    is("answer with a sum of 256", zevgorim_step(s, 0).answer, ZEVGORIM_BROKEN_STATE);
     s.process[0].returns = 253;
     is("answer of the gate with a sum of 255", zevgorim_step(s, 0).answer, 0);
 }
 
 static int same_state(zevgorim_state a, zevgorim_state b) {
     return memcmp(&a, &b, sizeof a) == 0;
+}
+
+/* every call on a state in which steps and returns of a process come to more than 255, each of the two large, and both */
+static void check_sums(void) {
+    static const uint8_t sums[][2] = {{255, 1}, {1, 255}, {128, 128}, {255, 255}};
+    static const uint8_t events[] = {0, 0, 1, 0};
+    for (size_t i = 0; i < sizeof sums / sizeof sums[0]; i++) {
+        zevgorim_state s = zevgorim_setup(2, 2, 1, 1).state;
+        s.process[1].steps = sums[i][0];
+        s.process[1].returns = sums[i][1];
+        uint8_t journal[8] = {170};
+        zevgorim_status roll[2] = {{170, 170, 170}};
+        zevgorim_done done[] = {
+            zevgorim_event(s, ZEVGORIM_REQUEST, 0), zevgorim_request(s, 0), zevgorim_step(s, 0), zevgorim_release(s, 0),
+            zevgorim_run(s, events, sizeof events, journal, sizeof journal),
+        };
+        for (size_t c = 0; c < sizeof done / sizeof done[0]; c++) {
+            is("answer to a sum past 255", done[c].answer, ZEVGORIM_BROKEN_STATE);
+            is("state of a sum past 255", same_state(done[c].state, s), 1);
+        }
+        is("report of a sum past 255", zevgorim_gate_report(s).answer, ZEVGORIM_BROKEN_STATE);
+        is("roll of a sum past 255", zevgorim_fill_status(s, roll, 2), ZEVGORIM_BROKEN_STATE);
+        is("lent bytes with a sum past 255", journal[0] + roll[0].stage + roll[0].name + roll[0].figure, 4 * 170);
+    }
 }
 
 /* the calls of one kind are the event call with its kind given: one process takes the only name and gives it back */
@@ -222,6 +244,7 @@ int main(void) {
     check_fresh();
     check_run();
     check_returns();
+    check_sums();
     check_kinds();
     check_large(256);
     check_large(257);
