@@ -7,7 +7,7 @@ use native.Mathlib.Decide.{ℕ-discrete}
 use lib.ListN.{length, getD, set, length-set}
 use lib.Seq.{getD-set-same, getD-set-other}
 use Rattle.machine.proofs.Rules.{_∙_, _≡_, arith}
-use Rattle.fresh.proofs.Tabulated.{by-place}
+use Rattle.machine.proofs.Facts.Tabulated.{by-place}
 use Rattle.machine.specs.Below.{tabulate}
 
 -- the first i of n places hold what they should

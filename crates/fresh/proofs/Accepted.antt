@@ -1,9 +1,9 @@
--- A setup answered 0 has its numbers within the machine's limits, and at most 16 leaves and 64 segment words. Assumes nothing.
+-- A setup answered 0 has its numbers within the machine's limits, 1 to 16 leaves and at most 64 segment words. Assumes nothing.
 use mathlib.Core.Path.{_≡_, sym, _∙_}
 use Prim.Native.Nat.{ℕ, _*_, _≤_}
 use Rattle.machine.specs.Setup.{setupAnswer}
 use Rattle.machine.specs.declared.Setup.{Setup}
-use Rattle.machine.proofs.Facts.Leaves.{leaves-high}
+use Rattle.machine.proofs.Facts.Leaves.{leaves-low, leaves-high}
 use Rattle.machine.proofs.Places.{segments-64}
 use Rattle.machine.proofs.Ranges.{Limits, limits-of}
 
@@ -11,6 +11,9 @@ pub accepted : {c : Setup} {a : ℕ} → a ≡ setupAnswer c → a ≡ 0 → Lim
 accepted {c} e z = limits-of c (sym e ∙ z)
 
 module _ {c : Setup} (k : Limits c) where
+  pub leaves-1 : 1 ≤ c .leaves
+  leaves-1 = leaves-low (c .leaves) (k .leaves)
+
   pub leaves-16 : c .leaves ≤ 16
   leaves-16 = leaves-high (c .leaves) (k .leaves)
 

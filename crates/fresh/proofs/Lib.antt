@@ -1,4 +1,3 @@
 -- What the functions' proofs share.
 pub mod Accepted
 pub mod Levels
-pub mod Tabulated

@@ -1,4 +1,4 @@
-// What makes a setup's state: the limits of its numbers, a counter's fresh value, and the two states that a setup gives.
+// What makes a setup's state: the limits of its numbers, a counter's fresh value, and the states that a setup gives.
 pub mod counter;
 pub mod limits;
 pub mod state;

@@ -1,4 +1,4 @@
-// The two states that a setup gives: the fresh one, and the blank one with every number 0.
+// The states that a setup gives: the fresh one, with all of its counters or a part of them, and the blank one with every number 0.
 use crate::counter;
 use crate::limits;
 use machine::NO_NAME;
@@ -7,9 +7,10 @@ use machine::Setup;
 use machine::State;
 use machine::stage;
 ghost use mathlib.Core.Path.{_≡_};
+ghost use Prim.Native.Nat.{_-_, min};
 ghost use Rattle.machine.specs.Below.{tabulate};
 ghost use Rattle.machine.specs.Setup.{setupAnswer};
-ghost use Rattle.machine.specs.State.{noProcess, freshProcess, freshCounterAt, freshProcessAt, fresh, blank};
+ghost use Rattle.machine.specs.State.{noProcess, freshProcess, freshProcessAt, blank, partialCounterAt, partial};
 
 // What an unused place for a process holds.
 fn no_process() -> Process
@@ -39,16 +40,30 @@ pub fn fresh_process() -> Process
     }
 }
 
-// The counters of nodes 1 to l - 1, with 0 at every other place.
-fn fresh_counters(setup: Setup) -> [u8; 16]
+// How many counters a count fills: no more than the nodes 1 to l - 1 that carry one.
+fn counters_filled(setup: Setup, count: u64) -> u8
     requires { ⌜ setupAnswer setup ≡ 0 ⌝ }
-    ensures { λ r. ⌜ r ≡ tabulate 16 (freshCounterAt setup) ⌝ }
+    ensures { λ r. ⌜ r ≡ min count (setup .leaves - 1) ⌝ }
+{
+    let every = setup.leaves - 1;
+    if count < every as u64 {
+        return count as u8;
+    }
+    every
+}
+
+// So many counters, from node l - 1 up to node 1, with 0 at every other place.
+fn partial_counters(setup: Setup, count: u64) -> [u8; 16]
+    requires { ⌜ setupAnswer setup ≡ 0 ⌝ }
+    ensures { λ r. ⌜ r ≡ tabulate 16 (partialCounterAt setup count) ⌝ }
 {
     let mut counters = [0u8; 16];
-    let mut v = 1u8;
-    while v < setup.leaves {
+    let mut left = counters_filled(setup, count);
+    let mut v = setup.leaves;
+    while left > 0 {
+        v -= 1;
         counters[v as usize] = counter::fresh_counter(setup, v);
-        v += 1;
+        left -= 1;
     }
     counters
 }
@@ -67,13 +82,14 @@ fn fresh_processes(setup: Setup) -> [Process; 64]
     process
 }
 
-// The fresh state of a setup that is not refused.
-pub fn fresh_state(setup: Setup) -> State
+// The fresh state of a setup that is not refused, with so many of its counters: segment words, then counters.
+pub fn partial_state(setup: Setup, count: u64) -> State
     requires { ⌜ setupAnswer setup ≡ 0 ⌝ }
-    ensures { λ r. ⌜ r ≡ fresh setup ⌝ }
+    ensures { λ r. ⌜ r ≡ partial setup count ⌝ }
 {
     let k = limits::names_of(setup);
-    let counters = fresh_counters(setup);
+    let words = [0u8; 64];
+    let counters = partial_counters(setup, count);
     let process = fresh_processes(setup);
     State {
         setup: setup,
@@ -81,7 +97,7 @@ pub fn fresh_state(setup: Setup) -> State
         queued: 0,
         queue: [0u8; 64],
         counters: counters,
-        words: [0u8; 64],
+        words: words,
         process: process,
     }
 }

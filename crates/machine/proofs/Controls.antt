@@ -8,8 +8,11 @@ unfolding machine
 controls =
     record {
       setups = refl;
+      partial-setups = refl;
       lowest = refl;
       counters = refl;
+      partial-counters = refl;
+      partial-start = refl;
       fresh-processes = refl;
       fresh-unused = (refl, refl, refl);
       out-of-range = refl;

@@ -1,6 +1,7 @@
 -- Facts that mention no machine: tests, lists, the tree, words, checks, lent buffers.
 pub mod Tests
 pub mod Below
+pub mod Tabulated
 pub mod Lists
 pub mod Rows
 pub mod Sums

@@ -2,6 +2,7 @@
 -- Assumes nothing.
 pub mod Setup
 pub mod Fresh
+pub mod Partial
 pub mod Answers
 pub mod OnePlace
 pub mod Unread
@@ -15,11 +16,13 @@ use Rattle.machine.proofs.Laws.Answers.{accepted-in-range, refused-unch
 use Rattle.machine.proofs.Laws.Fresh.{fresh-in-range, blank-out-of-range}
 use Rattle.machine.proofs.Laws.OnePlace.{event-touches, others-unchanged, setup-unchanged}
 use Rattle.machine.proofs.Laws.OnePlace.{unused-process, unused-counter, unused-word, sized-kept}
+use Rattle.machine.proofs.Laws.Partial.{partial-setup, partial-step, partial-in-range, partial-sized}
 use Rattle.machine.proofs.Laws.Parts.{after-parts, answers-parts, journal-parts, events-parts, journal-length, lent-length}
 use Rattle.machine.proofs.Laws.Room.Gate.{enter-room, await-room}
 use Rattle.machine.proofs.Laws.Room.Getname.{getname-room}
 use Rattle.machine.proofs.Laws.Room.Putname.{putname-room}
 use Rattle.machine.proofs.Laws.Setup.{setup-answers, setup-refused, setup-accepted}
+use Rattle.machine.proofs.Laws.Setup.{partial-answers, partial-refused, partial-accepted}
 use Rattle.machine.proofs.Laws.Steps.{steps-reset, returns-reset, head-leaves}
 use Rattle.machine.proofs.Laws.Unread.{event-alike}
 use Rattle.machine.proofs.Ranges.{ranges-of}
@@ -44,6 +47,13 @@ laws =
       fresh-state = fresh-in-range;
       fresh-lengths = fresh-sized;
       blank-state = blank-out-of-range;
+      partial-answer = partial-answers;
+      accepted-partial = partial-accepted;
+      refused-partial = partial-refused;
+      partial-whole = λ c count k. partial-setup c count (λ _. k);
+      partial-next = partial-step;
+      partial-state = partial-in-range;
+      partial-lengths = partial-sized;
       accepted = accepted-in-range;
       refused = refused-unchanged;
       lengths = sized-kept;

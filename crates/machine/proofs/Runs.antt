@@ -2,7 +2,7 @@
 use Rattle.machine.specs.Below.{allBelow, sumBelow, tabulate}
 use Rattle.machine.specs.Setup.{isLeaves, setupAnswer, log2}
 use Rattle.machine.specs.Operations.{firstZero, setFirstZero, clrBit, boundedDecrement}
-use Rattle.machine.specs.State.{freshCounterAt, freshProcessAt, fresh, blank, setup}
+use Rattle.machine.specs.State.{freshCounterAt, freshProcessAt, fresh, blank, setup, partialCounterAt, partial, partialSetup}
 use Rattle.machine.specs.Range.{gateInRange, inRange}
 use Rattle.machine.specs.Gate.{above0, among, movedUp, headGone, enter, await, leave}
 use Rattle.machine.specs.Getname.{side, outcome, descend, probe, getnameStep}
@@ -16,7 +16,7 @@ use Rattle.machine.specs.Reports.{positivePart, gateReport, statusAnswer
 unfoldable pub machine : Unit {0}
 unfolding
     allBelow sumBelow tabulate isLeaves setupAnswer log2 firstZero setFirstZero clrBit boundedDecrement freshCounterAt
-    freshProcessAt fresh blank setup gateInRange inRange above0 among movedUp headGone enter await leave side
-    outcome descend probe getnameStep giveBack climb putnameStep request release guarded step event isAdmitted admitted eventsOf
+    freshProcessAt fresh blank setup partialCounterAt partial partialSetup gateInRange inRange above0 among movedUp headGone enter
+    await leave side outcome descend probe getnameStep giveBack climb putnameStep request release guarded step event isAdmitted admitted eventsOf
     after answers entryOf journal run runJournal positivePart gateReport statusAnswer statusRecords
 machine = tt

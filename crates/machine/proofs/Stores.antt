@@ -16,7 +16,7 @@ use Rattle.machine.specs.Range.{gateInRange, ProcessRanges}
 use Rattle.machine.specs.Setup.{names}
 use Rattle.machine.specs.Stage.{exhausted}
 use Rattle.machine.specs.State.{none, noProcess, freshProcess, withStage, withNode, withName, withReturns, processAt}
-use Rattle.machine.specs.State.{withProcess, withCounter, withWord, withGate, withQueue, rebuilt, freshCounter}
+use Rattle.machine.specs.State.{withProcess, withCounters, withCounter, withWord, withGate, withQueue, rebuilt, freshCounter}
 use Rattle.machine.specs.declared.Process.{Process}
 use Rattle.machine.specs.declared.Setup.{Setup}
 use Rattle.machine.specs.declared.State.{State}
@@ -77,11 +77,13 @@ module _ (s : State) (k : Ranges s) where
   pub own-record : (p : ℕ) (h : Process) → p < c .processes → length (s .process) ≡ 64 → processAt (withProcess p h s) p ≡ h
   own-record p h kp e = getD-set-same (s .process) p h noProcess (omega (arith, k .limits .n64))
 
+  pub set-counters : (cs : List ℕ) → ((v : ℕ) → 0 < v → v < c .leaves → getD cs v 0 ≤ freshCounter c v) → Ranges (withCounters cs s)
+  set-counters cs kc = rebuilt-ranges (k .gate) (k .queue) kc (k .words) (k .process)
+
   pub store-counter : (v n : ℕ) → n ≤ freshCounter c v → Ranges (withCounter v n s)
   store-counter v n kn =
-      rebuilt-ranges (k .gate) (k .queue)
+      set-counters (set (s .counters) v n)
       (λ u low l. getD-set-by (λ (x : ℕ). x ≤ freshCounter c u) (s .counters) v n u 0 (λ e. rw e kn) (k .counters u low l))
-      (k .words) (k .process)
 
   pub store-word : (r w : ℕ) → w < 2 ^ c .bits → Ranges (withWord r w s)
   store-word r w kw =

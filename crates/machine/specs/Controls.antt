@@ -17,7 +17,7 @@ use Rattle.machine.specs.Setup.{plain}
 use Rattle.machine.specs.Runs.{request, step, release, line}
 use Rattle.machine.specs.State.{done, none, freshProcess, withStage, withNode, withSegment, withName, withSteps, withReturns}
 use Rattle.machine.specs.State.{processAt, counterAt, withGate, withQueue, withCounter, withWord, withProcess, update}
-use Rattle.machine.specs.State.{fresh, blank, setup}
+use Rattle.machine.specs.State.{fresh, blank, setup, partial, partialSetup}
 use Rattle.machine.specs.declared.Process.{Process}
 use Rattle.machine.specs.declared.State.{State}
 use Rattle.machine.specs.declared.Status.{Status}
@@ -139,10 +139,22 @@ pub record Controls : Type 0 where
   pub setups :
       map setup (plain 65 3 9 9 ∷ plain 64 3 9 9 ∷ plain 64 16 9 9 ∷ plain 64 16 8 9 ∷ plain 64 16 8 8 ∷ [])
       ≡ done 1 blank ∷ done 2 blank ∷ done 3 blank ∷ done 4 blank ∷ done 5 blank ∷ []
+  -- so does the second form, whatever the count
+  pub partial-setups :
+      map (λ c. partialSetup c 9) (plain 65 3 9 9 ∷ plain 64 3 9 9 ∷ plain 64 16 9 9 ∷ plain 64 16 8 9 ∷ plain 64 16 8 8 ∷ [])
+      ≡ done 1 blank ∷ done 2 blank ∷ done 3 blank ∷ done 4 blank ∷ done 5 blank ∷ []
   -- of several clear bits the lowest is set
   pub lowest : setFirstZero 3 0 ≡ record { answer = 0; word = 1 }
   -- counters k / 2^(d+1), by node
   pub counters : fresh (plain 64 16 2 2) .counters ≡ 0 ∷ 32 ∷ 16 ∷ 16 ∷ 8 ∷ 8 ∷ 8 ∷ 8 ∷ 4 ∷ 4 ∷ 4 ∷ 4 ∷ 4 ∷ 4 ∷ 4 ∷ 4 ∷ []
+  -- filled from node L - 1 up to node 1, for counts from 0 on
+  pub partial-counters : tabulate 5 (λ n. take 5 (partial (plain 4 4 1 1) n .counters))
+      ≡ (0 ∷ 0 ∷ 0 ∷ 0 ∷ 0 ∷ []) ∷ (0 ∷ 0 ∷ 0 ∷ 1 ∷ 0 ∷ []) ∷ (0 ∷ 0 ∷ 1 ∷ 1 ∷ 0 ∷ [])
+      ∷ (0 ∷ 2 ∷ 1 ∷ 1 ∷ 0 ∷ []) ∷ (0 ∷ 2 ∷ 1 ∷ 1 ∷ 0 ∷ []) ∷ []
+  -- from a smaller count's state demand 3 does not hold: the first process admitted holds name 1, and the second is exhausted
+  pub partial-start : journal (partial (plain 2 2 1 1) 0) (take 8 round)
+      ≡ line 0 1 none 0 ++ line 0 3 none 0 ++ line 0 3 none 1 ++ line 0 4 1 2
+      ++ line 0 1 none 0 ++ line 0 3 none 0 ++ line 0 3 none 1 ++ line 0 6 none 2
   -- fresh: 0, 1, 0, 255, 0, 0; and 0 where the setup leaves a place unused
   pub fresh-processes : map numbers (take 3 (pair .process))
       ≡ (0 ∷ 1 ∷ 0 ∷ 255 ∷ 0 ∷ 0 ∷ []) ∷ (0 ∷ 1 ∷ 0 ∷ 255 ∷ 0 ∷ 0 ∷ []) ∷ replicate 6 0 ∷ []

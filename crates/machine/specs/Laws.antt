@@ -3,7 +3,7 @@ use mathlib.Core.Path.{_≡_}
 use mathlib.Core.Logic.{_≢_}
 use mathlib.Core.Bool.{true, false}
 use mathlib.Core.List.{List, _++_}
-use Prim.Native.Nat.{ℕ, suc, _+_, _*_, _%_, _^_, _≤_, _<_}
+use Prim.Native.Nat.{ℕ, suc, _+_, _-_, _*_, _%_, _^_, _≤_, _<_}
 use lib.ListN.{length, getD}
 use Rattle.machine.specs.Event.{event}
 use Rattle.machine.specs.Gate.{headGone, enter, await}
@@ -14,7 +14,8 @@ use Rattle.machine.specs.Putname.{putnameStep}
 use Rattle.machine.specs.Range.{inRange}
 use Rattle.machine.specs.Room.{enterRoom, getnameRoom, putnameRoom}
 use Rattle.machine.specs.Setup.{isLeaves, setupAnswer, height}
-use Rattle.machine.specs.State.{done, depth, processAt, counterAt, wordAt, fresh, blank, setup, Sized}
+use Rattle.machine.specs.State.{done, depth, processAt, counterAt, wordAt, withCounter, freshCounter}
+use Rattle.machine.specs.State.{fresh, blank, setup, partial, partialSetup, Sized}
 use Rattle.machine.specs.Touches.{Touches, Alike, Same}
 use Rattle.machine.specs.declared.Setup.{Setup}
 use Rattle.machine.specs.declared.State.{State}
@@ -43,6 +44,19 @@ pub record Laws : Type 0 where
   pub fresh-state : (c : Setup) → setupAnswer c ≡ 0 → inRange (fresh c) ≡ true
   pub fresh-lengths : (c : Setup) → Sized (fresh c)
   pub blank-state : inRange blank ≡ false
+  -- the second form of the setup answers as the setup does, whatever the count
+  pub partial-answer : (c : Setup) (count : ℕ) → partialSetup c count .answer ≡ setupAnswer c
+  pub accepted-partial : (c : Setup) (count : ℕ) → setupAnswer c ≡ 0 → partialSetup c count ≡ done 0 (partial c count)
+  pub refused-partial : (c : Setup) (count : ℕ) → setupAnswer c ≢ 0 → partialSetup c count ≡ done (setupAnswer c) blank
+  -- from a count of L - 1 on it is the setup, number for number
+  pub partial-whole : (c : Setup) (count : ℕ) → c .leaves ≤ count + 1 → partialSetup c count ≡ setup c
+  -- from node L - 1 up to node 1: a count more fills the counter of node L - 1 - count, and changes no other number
+  pub partial-next : (c : Setup) (count : ℕ) → setupAnswer c ≡ 0 → count + 1 < c .leaves
+      → partial c (count + 1)
+      ≡ withCounter (c .leaves - 1 - count) (freshCounter c (c .leaves - 1 - count)) (partial c count)
+  -- whatever the count, its state is in range, so that every call answers it by the machine, and its arrays have their lengths
+  pub partial-state : (c : Setup) (count : ℕ) → setupAnswer c ≡ 0 → inRange (partial c count) ≡ true
+  pub partial-lengths : (c : Setup) (count : ℕ) → Sized (partial c count)
   -- an accepted event keeps a state in range; a refused one keeps the state itself; no event changes a length
   pub accepted : (s : State) (kind p : ℕ) → event s kind p .answer ≡ 0 → inRange (event s kind p .state) ≡ true
   pub refused : (s : State) (kind p : ℕ) → event s kind p .answer ≢ 0 → event s kind p .state ≡ s

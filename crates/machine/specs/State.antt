@@ -1,10 +1,11 @@
--- Document 01, section State: the parts of a state, how one of them changes, the fresh state and the blank one.
+-- Document 01, section State: the parts of a state, how one of them changes, the fresh state and the blank one; and of document 02, c,
+-- the state of a setup that fills a part of its counters.
 -- No other definition of the machine builds a state or a process field by field.
 use mathlib.Core.Path.{_≡_}
 use mathlib.Core.Bool.{cond, _&&_}
 use mathlib.Core.List.{List}
-use Prim.Native.Nat.{ℕ, _+_, _/_, _^_}
-use lib.Dec.{ltb}
+use Prim.Native.Nat.{ℕ, _+_, _-_, _/_, _^_}
+use lib.Dec.{leb, ltb}
 use lib.IntN.{ℤ, pos}
 use lib.ListN.{length, getD, set, replicate}
 use Rattle.machine.specs.Below.{tabulate}
@@ -90,8 +91,11 @@ withGate a s = rebuilt a (s .queued) (s .queue) (s .counters) (s .words) (s .pro
 abbrev pub withQueue : ℕ → List ℕ → State → State
 withQueue n q s = rebuilt (s .gate) n q (s .counters) (s .words) (s .process) s
 
+abbrev pub withCounters : List ℕ → State → State
+withCounters counters s = rebuilt (s .gate) (s .queued) (s .queue) counters (s .words) (s .process) s
+
 abbrev pub withCounter : ℕ → ℕ → State → State
-withCounter v n s = rebuilt (s .gate) (s .queued) (s .queue) (set (s .counters) v n) (s .words) (s .process) s
+withCounter v n s = withCounters (set (s .counters) v n) s
 
 abbrev pub withWord : ℕ → ℕ → State → State
 withWord r w s = rebuilt (s .gate) (s .queued) (s .queue) (s .counters) (set (s .words) r w) (s .process) s
@@ -146,8 +150,25 @@ blank =
     }
 
 -- A refused setup gives the number and the blank state.
+abbrev pub setupGiving : Setup → State → Done
+setupGiving c s = checked (setupChecks c) (λ a. done a blank) (done accepted s)
+
 unfoldable pub setup : Setup → Done
-setup c = checked (setupChecks c) (λ a. done a blank) (done accepted (fresh c))
+setup c = setupGiving c (fresh c)
+
+-- Counters are filled from node L - 1 up to node 1, and the setup's second form stops once so many are filled: node v is filled when
+-- L - v is at most the count. The others are 0 (document 02, c).
+unfoldable pub partialCounterAt : Setup → ℕ → ℕ → ℕ
+partialCounterAt c count v = cond (leb (c .leaves - v) count) (freshCounterAt c v) 0
+
+-- All else is fresh. From a smaller count's state no list statement starts: each starts from `fresh c`, an accepted setup's own state,
+-- and from a count of L - 1 on this is that state.
+unfoldable pub partial : Setup → ℕ → State
+partial c count = withCounters (tabulate 16 (partialCounterAt c count)) (fresh c)
+
+-- The second form takes any count, and refuses as the setup does.
+unfoldable pub partialSetup : Setup → ℕ → Done
+partialSetup c count = setupGiving c (partial c count)
 
 -- The arrays have the lengths that the record declares: a queue of 64, counters for 16 nodes, 64 segment words, 64 processes.
 pub record Sized (s : State) : Type 0 where

@@ -10,11 +10,12 @@ use Rattle.machine.proofs.Rules.{refl, _≡_, arith}
 use Rattle.machine.specs.Event.{event}
 use Rattle.machine.specs.Lists.{Event, eventDone, eventsOf, after, run, runJournal}
 use Rattle.machine.specs.Setup.{plain}
-use Rattle.machine.specs.State.{setup, processAt}
+use Rattle.machine.specs.State.{setup, partialSetup, processAt}
 use Rattle.machine.specs.declared.Done.{Done}
+use Rattle.machine.specs.declared.Setup.{Setup}
 use Rattle.machine.specs.declared.State.{State}
 use Rattle.machine.proofs.Runs.{machine}
-use Rattle.whole_list.specs.Calls.{SetUp, eventOf, by-event, by-request, by-step, by-release}
+use Rattle.whole_list.specs.Calls.{SetUp, PartlySetUp, eventOf, by-event, by-request, by-step, by-release}
 use Rattle.whole_list.specs.Calls.{ListCall, resultsOf, Calls, none, call, list, refused-list}
 
 pub chain-of : (s : State) (es : List Event) → Calls s es (resultsOf s es) (after s es)
@@ -74,6 +75,10 @@ holds-drawn = refl
 
 pub set-up : SetUp (plain 2 1 1 1) start
 set-up = refl
+
+-- the second form gives what it should, whatever the setup and the count
+pub partly-set-up : (c : Setup) (count : ℕ) → PartlySetUp c count (partialSetup c count)
+partly-set-up c count = refl
 
 pub mixed : Lfts 2 → Calls (start .state)
     (eventOf 0 0 ∷ eventOf 2 0 ∷ eventOf 1 0 ∷ eventOf 1 0 ∷ eventOf 2 0 ∷ eventOf 1 0 ∷ [])

@@ -4,4 +4,5 @@ pub mod Results
 pub mod Chain
 pub mod Agrees
 pub mod Theorem
+pub mod Order
 pub mod Controls

@@ -14,6 +14,7 @@ use Rattle.machine.specs.declared.Done.{Done}
 use Rattle.machine.specs.declared.Setup.{Setup}
 use Rattle.machine.specs.declared.State.{State}
 use Rattle.renaming.proofs.setup.setup.Reads as setup-reads
+use Rattle.renaming.proofs.setup.partial_setup.Reads as partial-setup-reads
 use Rattle.renaming.proofs.event.event.Reads as event-reads
 use Rattle.renaming.proofs.event.request.Reads as request-reads
 use Rattle.renaming.proofs.event.step.Reads as step-reads
@@ -23,6 +24,10 @@ use Rattle.renaming.proofs.list.run.Reads as run-reads
 -- `setup(c)` gave d
 abbrev pub SetUp : Setup → Done → Type 0
 SetUp c d = setup-reads.Learnt tt (c, tt) d (c, tt)
+
+-- `partial_setup(c, count)` gave d
+abbrev pub PartlySetUp : Setup → ℕ → Done → Type 0
+PartlySetUp c count d = partial-setup-reads.Learnt tt (c, (count, tt)) d (c, (count, tt))
 
 abbrev pub eventOf : ℕ → ℕ → Event
 eventOf kind p = record { kind = kind; process = p }

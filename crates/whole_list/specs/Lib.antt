@@ -1,3 +1,4 @@
--- Demand 3 said of the calls: chains of calls, and what holds of them.
+-- What is said of the calls: chains of calls with demand 3, and the setup's order of work.
 pub mod Calls
 pub mod Whole
+pub mod Order

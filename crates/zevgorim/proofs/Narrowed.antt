@@ -10,7 +10,7 @@ use Rattle.machine.specs.Event.{event}
 use Rattle.machine.specs.Filled.{writtenOf}
 use Rattle.machine.specs.Range.{inRange}
 use Rattle.machine.specs.Setup.{plain, within, isLeaves, setupChecks}
-use Rattle.machine.specs.State.{done, fresh, blank, setup}
+use Rattle.machine.specs.State.{done, fresh, blank, setup, partial, partialSetup}
 use Rattle.machine.specs.declared.Setup.{Setup}
 use Rattle.machine.specs.declared.State.{State}
 use Rattle.machine.proofs.Ranges.{ranges-of}
@@ -50,6 +50,11 @@ module _ {A : Type 0} (refuse : ℕ → A) (accept : Setup → A) where
 pub setup-narrowed : (n l g b : ℕ) → setup (plain (narrow n) (narrow l) (narrow g) (narrow b)) ≡ setup (plain n l g b)
 unfolding setup
 setup-narrowed = checks-narrowed (λ a. done a blank) (λ c. done 0 (fresh c))
+
+pub partial-narrowed : (n l g b count : ℕ)
+    → partialSetup (plain (narrow n) (narrow l) (narrow g) (narrow b)) count ≡ partialSetup (plain n l g b) count
+unfolding partialSetup
+partial-narrowed n l g b count = checks-narrowed (λ a. done a blank) (λ c. done 0 (partial c count)) n l g b
 
 module _ (n l g b : ℕ) (events lent : List ℕ) where
   abbrev later : {A : Type 0} → (ℕ → A) → A → A

@@ -1,8 +1,7 @@
-// Setup, events, lists and the gate report, for C. A number comes in 32 bits and is refused where it is too large: none is cut.
+// Setups, events, lists and the gate report, for C. A number of a setup or of an event comes in 32 bits and is refused where it is too large: none is cut.
 use crate::narrow;
 use machine::Done;
 use machine::Report;
-use machine::Setup;
 use machine::State;
 use machine::kind;
 use renaming::event;
@@ -15,18 +14,20 @@ ghost use Rattle.machine.specs.Kind;
 ghost use Rattle.machine.specs.Lists;
 ghost use Rattle.machine.specs.Reports;
 ghost use Rattle.machine.specs.Setup.{plain};
-ghost use Rattle.machine.specs.State.{setup as State·setup};
+ghost use Rattle.machine.specs.State.{setup as State·setup, partialSetup};
 
 #[no_mangle]
 pub extern "C" fn zevgorim_setup(n: u32, l: u32, g: u32, b: u32) -> Done
     ensures { λ r. ⌜ r ≡ State·setup (plain n l g b) ⌝ }
 {
-    setup::setup(Setup {
-        processes: narrow::narrowed(n),
-        leaves: narrow::narrowed(l),
-        segments: narrow::narrowed(g),
-        bits: narrow::narrowed(b),
-    })
+    setup::setup(narrow::setup_of(n, l, g, b))
+}
+
+#[no_mangle]
+pub extern "C" fn zevgorim_partial_setup(n: u32, l: u32, g: u32, b: u32, count: u64) -> Done
+    ensures { λ r. ⌜ r ≡ partialSetup (plain n l g b) count ⌝ }
+{
+    setup::partial_setup(narrow::setup_of(n, l, g, b), count)
 }
 
 #[no_mangle]

@@ -1,12 +1,13 @@
 -- What holds of each of the five numbers of leaves, and of the tree's nodes: one computed test each, and the law that it gives.
 --     by-leaves     a test that 1, 2, 4, 8 and 16 pass, passed by every accepted number of leaves
 --     height-is     2^h = L
+--     level-high    a node below L is no deeper than the tree above its leaves
 --     depth-root, depth-left, depth-right    node 1 has depth 0, and a child lies one level below its parent
 -- Assumes nothing.
 use Prim.Native.Nat.{ℕ, _+_, _*_, _^_, _≤_, _<_}
 use native.Mathlib.Decide.{decLt}
 use lib.Dec.{eqb, ltb, leb}
-use Rattle.machine.proofs.Rules.{_≡_, refl, true, cond, Bool, _&&_, false≢true, arith, lt-ltb, eqb-true, ne-eqb, leb-true}
+use Rattle.machine.proofs.Rules.{_≡_, refl, true, cond, Bool, _&&_, _||_, false≢true, arith, lt-ltb, eqb-true, ne-eqb, leb-true}
 use Rattle.machine.specs.Below.{allBelow}
 use Rattle.machine.specs.Setup.{isLeaves, log2, height}
 use Rattle.machine.proofs.Facts.Tests.{and-left, and-right}
@@ -52,6 +53,21 @@ powers = refl
 pub height-is : (l : ℕ) → isLeaves l ≡ true → 2 ^ height l ≡ l
 unfolding powerIs
 height-is l e = eqb-true (2 ^ height l) l (by-leaves powerIs powers l e)
+
+-- the level below each node below L
+levelsFit : ℕ → Bool
+levelsFit l = allBelow l (λ v. eqb v 0 || leb (2 ^ (log2 v + 1)) l)
+
+fitting : allBelow 17 (ofLeaves levelsFit) ≡ true
+unfolding allBelow isLeaves levelsFit log2
+fitting = refl
+
+pub level-high : (l v : ℕ) → isLeaves l ≡ true → 0 < v → v < l → 2 ^ (log2 v + 1) ≤ l
+unfolding levelsFit
+level-high l v e low k =
+    leb-true (2 ^ (log2 v + 1)) l
+    (rw (ne-eqb v 0 (omega arith)) at
+    (all-at l (λ u. eqb u 0 || leb (2 ^ (log2 u + 1)) l) (by-leaves levelsFit fitting l e) v k))
 
 -- the children of node v, if it is one
 below : ℕ → Bool

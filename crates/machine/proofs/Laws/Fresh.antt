@@ -1,15 +1,16 @@
--- The fresh state of every accepted setup is in range, and the blank state is not: number by number, and by computation.
--- Assumes nothing.
-use Prim.Native.Nat.{ℕ, _<_}
+-- The fresh state of every accepted setup is in range, with no counter at 0, and the blank state is not: number by number, and by
+-- computation. Assumes nothing.
+use Prim.Native.Nat.{ℕ, _+_, _*_, _≤_, _<_}
+use native.Mathlib.Nat.{le-div-iff-mul-le, mul-le-mul-left}
 use lib.Pow.{pow-pos}
 use Rattle.machine.proofs.Rules.{_≡_, _∙_, refl, true, false, arith, lt-ltb, le-leb}
 use Rattle.machine.specs.Setup.{names, setupAnswer}
-use Rattle.machine.specs.State.{noProcess, freshProcess, freshCounter, freshCounterAt}
+use Rattle.machine.specs.State.{noProcess, freshProcess, depth, freshCounter, freshCounterAt}
 use Rattle.machine.specs.State.{freshProcessAt, processAt, counterAt, fresh, blank}
 use Rattle.machine.specs.Range.{gateInRange, inRange}
 use Rattle.machine.specs.declared.Setup.{Setup}
 use Rattle.machine.proofs.Facts.Below.{getD-tabulate, getD-constant}
-use Rattle.machine.proofs.Facts.Leaves.{leaves-high}
+use Rattle.machine.proofs.Facts.Leaves.{leaves-high, level-high}
 use Rattle.machine.proofs.Ranges.{Limits, limits-of, in-range}
 use Rattle.machine.proofs.Stores.{fresh-process}
 
@@ -22,6 +23,12 @@ module _ (c : Setup) (accepted : setupAnswer c ≡ 0) where
   counter-fresh v low k =
       getD-tabulate 16 (freshCounterAt c) v 0 (omega (arith, leaves-high (c .leaves) (limits .leaves)))
       ∙ rw (lt-ltb 0 v low, lt-ltb v (c .leaves) k)
+
+  pub counter-low : (v : ℕ) → 0 < v → v < c .leaves → 1 ≤ freshCounter c v
+  counter-low v low k =
+      let rows = mul-le-mul-left (c .leaves) (limits .g1) in
+      let all = mul-le-mul-left (c .leaves * c .segments) (limits .b1) in
+      le-div-iff-mul-le (pow-pos (depth v + 1)) .1 (omega (arith, rows, all, level-high (c .leaves) v (limits .leaves) low k))
 
   pub process-fresh : (p : ℕ) → p < c .processes → processAt (fresh c) p ≡ freshProcess
   unfolding fresh freshProcessAt

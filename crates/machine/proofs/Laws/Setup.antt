@@ -1,21 +1,49 @@
--- An accepted setup gives the fresh state and a refused one its number and the blank state: its checks decide, whatever they decide
--- between. Assumes nothing.
+-- A setup, in either form, gives its state when it is accepted, and its number and the blank state when it is refused: its checks decide,
+-- whatever they decide between. Assumes nothing.
+use Prim.Native.Nat.{ℕ}
 use mathlib.Core.Path.{_≡_, refl}
 use Rattle.machine.specs.Setup.{setupChecks, setupAnswer}
-use Rattle.machine.specs.State.{done, fresh, blank, setup}
+use Rattle.machine.specs.State.{done, fresh, blank, partial, setupGiving, setup, partialSetup}
 use Rattle.machine.specs.declared.Done.{Done}
 use Rattle.machine.specs.declared.Setup.{Setup}
+use Rattle.machine.specs.declared.State.{State}
 use Rattle.machine.proofs.Facts.Checks.{read-of, refused-with, accepted-with}
+
+module _ (c : Setup) (s : State) where
+  giving-answers : setupGiving c s .answer ≡ setupAnswer c
+  unfolding setupAnswer
+  giving-answers = read-of (λ (d : Done). d .answer) (setupChecks c) (λ a. done a blank) (done 0 s)
+
+  giving-refused : (setupAnswer c ≡ 0 → ⊥) → setupGiving c s ≡ done (setupAnswer c) blank
+  unfolding setupAnswer
+  giving-refused d = refused-with (setupChecks c) (λ a. done a blank) (done 0 s) d
+
+  giving-accepted : setupAnswer c ≡ 0 → setupGiving c s ≡ done 0 s
+  unfolding setupAnswer
+  giving-accepted e = accepted-with (setupChecks c) (λ a. done a blank) (done 0 s) refl e
 
 module _ (c : Setup) where
   pub setup-answers : setup c .answer ≡ setupAnswer c
-  unfolding setup setupAnswer
-  setup-answers = read-of (λ (d : Done). d .answer) (setupChecks c) (λ a. done a blank) (done 0 (fresh c))
+  unfolding setup
+  setup-answers = giving-answers c (fresh c)
 
   pub setup-refused : (setupAnswer c ≡ 0 → ⊥) → setup c ≡ done (setupAnswer c) blank
-  unfolding setup setupAnswer
-  setup-refused d = refused-with (setupChecks c) (λ a. done a blank) (done 0 (fresh c)) d
+  unfolding setup
+  setup-refused = giving-refused c (fresh c)
 
   pub setup-accepted : setupAnswer c ≡ 0 → setup c ≡ done 0 (fresh c)
-  unfolding setup setupAnswer
-  setup-accepted e = accepted-with (setupChecks c) (λ a. done a blank) (done 0 (fresh c)) refl e
+  unfolding setup
+  setup-accepted = giving-accepted c (fresh c)
+
+module _ (c : Setup) (count : ℕ) where
+  pub partial-answers : partialSetup c count .answer ≡ setupAnswer c
+  unfolding partialSetup
+  partial-answers = giving-answers c (partial c count)
+
+  pub partial-refused : (setupAnswer c ≡ 0 → ⊥) → partialSetup c count ≡ done (setupAnswer c) blank
+  unfolding partialSetup
+  partial-refused = giving-refused c (partial c count)
+
+  pub partial-accepted : setupAnswer c ≡ 0 → partialSetup c count ≡ done 0 (partial c count)
+  unfolding partialSetup
+  partial-accepted = giving-accepted c (partial c count)
