@@ -136,22 +136,46 @@ impl State {
     };
 
     /// The fresh state of a setup, or the refusal's number; a refused setup
-    /// stands for the blank state.
+    /// stands for the blank state. No count stops it.
     pub fn setup(n: u8, l: u8, g: u8, b: u8) -> Result<State, u8> {
+        State::partial_setup(n, l, g, b, u64::MAX)
+    }
+
+    /// The setup's second form, which refuses as the setup does and stops
+    /// once `count` counters are filled: the others are 0, all else is fresh.
+    /// Segment words come first, then counters, then the rest.
+    pub fn partial_setup(n: u8, l: u8, g: u8, b: u8, count: u64) -> Result<State, u8> {
         let k = check_setup(n, l, g, b)?;
         let mut state = State {
             n,
             l,
             g,
             b,
-            gate: k as i8,
             ..State::BLANK
         };
-        for v in 1..usize::from(l) {
-            state.counters[v] = state.fresh_counter(v);
-        }
+        state.fill_segments();
+        state.fill_counters(count);
+        state.gate = k as i8;
         state.processes[..usize::from(n)].fill(Process::FRESH);
         Ok(state)
+    }
+
+    /// Every segment word in use gets its fresh value.
+    fn fill_segments(&mut self) {
+        let used = usize::from(self.l) * usize::from(self.g);
+        self.segments[..used].fill(0);
+    }
+
+    /// Fills counters from node L - 1 up to node 1, at most `count` of them.
+    fn fill_counters(&mut self, count: u64) {
+        let mut left = count;
+        for v in (1..usize::from(self.l)).rev() {
+            if left == 0 {
+                return;
+            }
+            self.counters[v] = self.fresh_counter(v);
+            left -= 1;
+        }
     }
 
     /// Number of names, k (document 01: pads). Right for accepted setups.

@@ -1,13 +1,16 @@
 // One record of the input: a state's image, the call's number, and what the call is given besides. 0 is an event, with its
-// kind and its process; 1 a list, with the events' length, the journal's length and the events; 2 the gate report.
+// kind and its process; 1 a list, with the events' length, the journal's length and the events; 2 the gate report; 3 the setup
+// of the state's four numbers with a count, in eight bytes, low byte first.
 use cases::image;
 use cases::input;
 use cases::line;
+use day_file::layout;
 use machine::Done;
 use machine::State;
 use renaming::event;
 use renaming::list;
 use renaming::report;
+use renaming::setup;
 ghost use mathlib.Core.Path.{_≡_};
 ghost use lib.ListN.{length};
 
@@ -76,6 +79,23 @@ fn report_call(state: State) -> bool {
     print(b"report", &numbers)
 }
 
+// Eight bytes as a number, low byte first.
+fn count_of(bytes: &[u8; 8]) -> u64 {
+    layout::word(bytes, 0) | layout::word(bytes, 4) << 32
+}
+
+// A setup with a count: the answer, and the digest of the state that it gave.
+fn setup_call(state: State) -> bool {
+    let mut given = [0u8; 8];
+    if io::read_full(0, &mut given) < 8 {
+        return false;
+    }
+    let done = setup::partial_setup(state.setup, count_of(&given));
+    let after = done.state;
+    let numbers = [input::number(done.answer), image::digest(after)];
+    print(b"setup", &numbers)
+}
+
 // Reads a record, makes its call and prints its line. False where the input ends, within a record too, and where the number is
 // no call's.
 pub(crate) fn next() -> bool {
@@ -93,6 +113,7 @@ pub(crate) fn next() -> bool {
         0 => event_call(state),
         1 => list_call(state),
         2 => report_call(state),
+        3 => setup_call(state),
         _ => false,
     }
 }

@@ -1,8 +1,9 @@
-//! Random states: every number at random within its range, and one in six
-//! broken at one place.
+//! Random states: every number at random within its range, or what follows
+//! a partial setup; one in six is broken at one place. Among the calls on
+//! them stand partial setups.
 
 use super::costs::set_cost;
-use super::{broken, ends, Records};
+use super::{broken, ends, partial, partial_runs, Records};
 use crate::cases::chance::setup;
 use crate::cases::schedule::natural_kind;
 use crate::random::Random;
@@ -182,15 +183,28 @@ pub(crate) fn perhaps_broken(rng: &mut Random, good: &State) -> State {
     }
 }
 
-pub fn add(records: &mut Records, rng: &mut Random) {
-    let good = state(rng);
-    let state = perhaps_broken(rng, &good);
+fn add_call(records: &mut Records, rng: &mut Random, good: &State) {
+    let state = perhaps_broken(rng, good);
     match rng.below(9) {
         0 => records.report(&state),
         1..=5 => {
-            let [kind, process] = event(rng, &good);
+            let [kind, process] = event(rng, good);
             records.event(&state, kind, process);
         }
-        _ => add_list(records, rng, &good, &state),
+        _ => add_list(records, rng, good, &state),
+    }
+}
+
+pub fn add(records: &mut Records, rng: &mut Random) {
+    match rng.below(6) {
+        0 => partial::add_any(records, rng),
+        1 => {
+            let good = partial_runs::any_state(rng);
+            add_call(records, rng, &good);
+        }
+        _ => {
+            let good = state(rng);
+            add_call(records, rng, &good);
+        }
     }
 }

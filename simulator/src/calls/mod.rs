@@ -1,4 +1,4 @@
-//! Hand-made states driven through the calls.
+//! Hand-made states driven through the calls, and partial setups.
 
 pub mod broken;
 pub mod chance;
@@ -6,8 +6,11 @@ pub mod costs;
 pub mod ends;
 pub mod orders;
 pub mod outside;
+pub mod partial;
+pub mod partial_runs;
 pub mod reached;
 
+use crate::answer::ACCEPTED;
 use crate::image::digest;
 use crate::random::Random;
 use crate::reports::Status;
@@ -83,6 +86,20 @@ impl Records {
         self.add(state, &[2], &line);
     }
 
+    /// The partial setup with the four numbers that the state holds; its
+    /// other bytes are not looked at. A refused one gives the blank state.
+    pub fn partial_setup(&mut self, state: &State, count: u64) {
+        let made = State::partial_setup(state.n, state.l, state.g, state.b, count);
+        let (answer, made) = match made {
+            Ok(made) => (ACCEPTED, made),
+            Err(number) => (number, State::BLANK),
+        };
+        let line = format!("setup {answer} {}", digest(&made.to_image()));
+        let mut call = vec![3];
+        call.extend(count.to_le_bytes());
+        self.add(state, &call, &line);
+    }
+
     /// The roll, with `room` lent records, of the state that the list gives
     /// back; the list has an even number of bytes, at most 254, and as much
     /// journal as it needs. The call has no number, since a file of rolls
@@ -123,6 +140,8 @@ pub fn fixed(records: &mut Records, rng: &mut Random) {
     outside::add(records);
     orders::add(records, rng);
     costs::add(records, rng);
+    partial::add(records, rng);
+    partial_runs::add(records, rng);
 }
 
 /// The first `count` records of a seed.

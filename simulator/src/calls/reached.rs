@@ -15,6 +15,12 @@ pub fn fresh(setup: [u8; 4]) -> State {
     State::setup(n, l, g, b).expect("an accepted setup")
 }
 
+/// The state of the partial setup with a count.
+pub fn partial(setup: [u8; 4], count: u64) -> State {
+    let [n, l, g, b] = setup;
+    State::partial_setup(n, l, g, b, count).expect("an accepted setup")
+}
+
 fn any_in(state: &State, stage: u8) -> bool {
     let used = &state.processes[..usize::from(state.n)];
     used.iter().any(|p| p.stage == stage)

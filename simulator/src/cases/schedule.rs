@@ -56,8 +56,13 @@ impl<'r> ListMaker<'r> {
     pub fn new(rng: &'r mut Random, setup: [u8; 4], plan: Plan) -> ListMaker<'r> {
         let [n, l, g, b] = setup;
         let state = State::setup(n, l, g, b).expect("an accepted setup");
-        let pool = plan.pool.clamp(1, n);
-        let first = rng.below(usize::from(n));
+        ListMaker::from_state(rng, state, plan)
+    }
+
+    /// Begins at a state that must be in range.
+    pub fn from_state(rng: &'r mut Random, state: State, plan: Plan) -> ListMaker<'r> {
+        let pool = plan.pool.clamp(1, state.n);
+        let first = rng.below(usize::from(state.n));
         let chosen = rng.below(usize::from(pool));
         ListMaker {
             rng,

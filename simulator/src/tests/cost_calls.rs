@@ -1,60 +1,10 @@
 //! The generated calls and rolls about the cost.
 
+use super::records::{figures, fixed_calls, read, Call};
 use crate::calls::costs::{COUNTED, LAST, NOT_COUNTED, PAST};
 use crate::calls::{self, chance, Records};
 use crate::random::Random;
 use crate::{rolls, State};
-
-/// A record of `calls.in` and its line.
-struct Call {
-    state: State,
-    /// 0 event, 1 list, 2 report.
-    number: u8,
-    /// Kind and process of an event, or the events of a list.
-    events: Vec<u8>,
-    line: Vec<usize>,
-}
-
-impl Call {
-    fn answer(&self) -> usize {
-        self.line[0]
-    }
-}
-
-/// The figures of a line after its first word.
-fn figures(line: &str) -> Vec<usize> {
-    let words = line.split(' ').skip(1);
-    words.map(|word| word.parse().unwrap()).collect()
-}
-
-fn read(records: &Records) -> Vec<Call> {
-    let mut input = &records.input[..];
-    let mut calls = Vec::new();
-    for line in records.output.lines() {
-        let (image, rest) = input.split_first_chunk().unwrap();
-        let (skipped, bytes) = match rest[0] {
-            0 => (1, 2),
-            1 => (3, usize::from(rest[1])),
-            _ => (1, 0),
-        };
-        let (events, rest) = rest[skipped..].split_at(bytes);
-        calls.push(Call {
-            state: State::from_image(image),
-            number: input[534],
-            events: events.to_vec(),
-            line: figures(line),
-        });
-        input = rest;
-    }
-    assert!(input.is_empty());
-    calls
-}
-
-fn fixed_calls() -> Vec<Call> {
-    let mut records = Records::new(usize::MAX);
-    calls::fixed(&mut records, &mut Random::new(1));
-    read(&records)
-}
 
 /// The first process, a middle one and the last, whatever N is.
 fn thirds(state: &State, middle: fn(usize) -> usize) -> [usize; 3] {

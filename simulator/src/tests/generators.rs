@@ -115,10 +115,12 @@ fn batches_are_repeatable() {
         .filter(|&x| x == 32_767);
     assert_eq!(most.count(), 2);
     assert_eq!(cases::all(7, 9).len(), 9);
-    let calls = calls::all(7, 940);
-    assert_eq!(calls.count, 940);
-    assert_eq!(calls.output.lines().count(), 940);
-    assert!(calls.input == calls::all(7, 940).input);
+    let calls = calls::all(7, 1_200);
+    assert_eq!(calls.count, 1_200);
+    assert_eq!(calls.output.lines().count(), 1_200);
+    let again = calls::all(7, 1_200);
+    assert!(calls.input == again.input && calls.output == again.output);
+    assert!(calls.input != calls::all(8, 1_200).input);
     assert_eq!(calls::all(7, 3).count, 3);
 }
 
@@ -129,7 +131,7 @@ fn numbers_of_fixed_cases_and_records() {
         assert_eq!(cases::fixed(&mut rng).len(), 340);
         let mut records = Records::new(usize::MAX);
         calls::fixed(&mut records, &mut rng);
-        assert_eq!(records.count, 865);
+        assert_eq!(records.count, 1_109);
     }
 }
 

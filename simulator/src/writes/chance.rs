@@ -6,7 +6,7 @@ use crate::day_file::EVENTS_AT;
 use crate::random::Random;
 
 /// Mostly accepted.
-fn any_setup(rng: &mut Random) -> [u8; 4] {
+pub(crate) fn any_setup(rng: &mut Random) -> [u8; 4] {
     let mut setup = setup(rng);
     match rng.below(16) {
         0 => setup = std::array::from_fn(|_| rng.byte()),
