@@ -52,7 +52,7 @@ fn counters_filled(setup: Setup, count: u64) -> u8
     every
 }
 
-// So many counters, from node l - 1 up to node 1, with 0 at every other place.
+// The counters of so many nodes, from node l - 1 up to node 1, with 0 at every other place.
 fn partial_counters(setup: Setup, count: u64) -> [u8; 16]
     requires { ⌜ setupAnswer setup ≡ 0 ⌝ }
     ensures { λ r. ⌜ r ≡ tabulate 16 (partialCounterAt setup count) ⌝ }

@@ -15,8 +15,8 @@ use Rattle.machine.specs.Reports.{positivePart, gateReport, statusAnswer
 -- `unfolding machine` opens every definition that a run goes through
 unfoldable pub machine : Unit {0}
 unfolding
-    allBelow sumBelow tabulate isLeaves setupAnswer log2 firstZero setFirstZero clrBit boundedDecrement freshCounterAt
-    freshProcessAt fresh blank setup partialCounterAt partial partialSetup gateInRange inRange above0 among movedUp headGone enter
-    await leave side outcome descend probe getnameStep giveBack climb putnameStep request release guarded step event isAdmitted admitted eventsOf
-    after answers entryOf journal run runJournal positivePart gateReport statusAnswer statusRecords
+    allBelow sumBelow tabulate isLeaves setupAnswer log2 firstZero setFirstZero clrBit boundedDecrement freshCounterAt freshProcessAt
+    fresh blank setup partialCounterAt partial partialSetup gateInRange inRange above0 among movedUp headGone enter await leave side
+    outcome descend probe getnameStep giveBack climb putnameStep request release guarded step event isAdmitted admitted eventsOf after
+    answers entryOf journal run runJournal positivePart gateReport statusAnswer statusRecords
 machine = tt

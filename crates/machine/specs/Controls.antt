@@ -18,7 +18,9 @@ use Rattle.machine.specs.Runs.{request, step, release, line}
 use Rattle.machine.specs.State.{done, none, freshProcess, withStage, withNode, withSegment, withName, withSteps, withReturns}
 use Rattle.machine.specs.State.{processAt, counterAt, withGate, withQueue, withCounter, withWord, withProcess, update}
 use Rattle.machine.specs.State.{fresh, blank, setup, partial, partialSetup}
+use Rattle.machine.specs.declared.Done.{Done}
 use Rattle.machine.specs.declared.Process.{Process}
+use Rattle.machine.specs.declared.Setup.{Setup}
 use Rattle.machine.specs.declared.State.{State}
 use Rattle.machine.specs.declared.Status.{Status}
 
@@ -28,6 +30,13 @@ pair = fresh (plain 2 2 1 1)
 
 abbrev pub single : State
 single = fresh (plain 3 1 1 1)
+
+-- setups that are refused with 1 to 5: each is bad in every later way too
+abbrev pub bad : List Setup
+bad = plain 65 3 9 9 ∷ plain 64 3 9 9 ∷ plain 64 16 9 9 ∷ plain 64 16 8 9 ∷ plain 64 16 8 8 ∷ []
+
+abbrev pub refused : List Done
+refused = done 1 blank ∷ done 2 blank ∷ done 3 blank ∷ done 4 blank ∷ done 5 blank ∷ []
 
 -- process 0 wins by the left leaf and process 1 by the right; 1 gives its name back, then 0
 abbrev pub round : List Event
@@ -135,18 +144,17 @@ abbrev pub numbers : Process → List ℕ
 numbers h = h .stage ∷ h .node ∷ h .segment ∷ h .name ∷ h .steps ∷ h .returns ∷ []
 
 pub record Controls : Type 0 where
-  -- setup checks 1 to 5 in that order: each of these is bad in every later way too
-  pub setups :
-      map setup (plain 65 3 9 9 ∷ plain 64 3 9 9 ∷ plain 64 16 9 9 ∷ plain 64 16 8 9 ∷ plain 64 16 8 8 ∷ [])
-      ≡ done 1 blank ∷ done 2 blank ∷ done 3 blank ∷ done 4 blank ∷ done 5 blank ∷ []
-  -- so does the second form, whatever the count
-  pub partial-setups :
-      map (λ c. partialSetup c 9) (plain 65 3 9 9 ∷ plain 64 3 9 9 ∷ plain 64 16 9 9 ∷ plain 64 16 8 9 ∷ plain 64 16 8 8 ∷ [])
-      ≡ done 1 blank ∷ done 2 blank ∷ done 3 blank ∷ done 4 blank ∷ done 5 blank ∷ []
+  -- setup checks 1 to 5 in that order; so does its second form
+  pub setups : map setup bad ≡ refused
+  pub partial-setups : map (λ c. partialSetup c 9) bad ≡ refused
   -- of several clear bits the lowest is set
   pub lowest : setFirstZero 3 0 ≡ record { answer = 0; word = 1 }
   -- counters k / 2^(d+1), by node
   pub counters : fresh (plain 64 16 2 2) .counters ≡ 0 ∷ 32 ∷ 16 ∷ 16 ∷ 8 ∷ 8 ∷ 8 ∷ 8 ∷ 4 ∷ 4 ∷ 4 ∷ 4 ∷ 4 ∷ 4 ∷ 4 ∷ 4 ∷ []
+  -- fresh: 0, 1, 0, 255, 0, 0; and 0 where the setup leaves a place unused
+  pub fresh-processes : map numbers (take 3 (pair .process))
+      ≡ (0 ∷ 1 ∷ 0 ∷ 255 ∷ 0 ∷ 0 ∷ []) ∷ (0 ∷ 1 ∷ 0 ∷ 255 ∷ 0 ∷ 0 ∷ []) ∷ replicate 6 0 ∷ []
+  pub fresh-unused : (pair .counters ≡ 0 ∷ 1 ∷ replicate 14 0) × (pair .words ≡ replicate 64 0) × (pair .queue ≡ replicate 64 0)
   -- filled from node L - 1 up to node 1, for counts from 0 on
   pub partial-counters : tabulate 5 (λ n. take 5 (partial (plain 4 4 1 1) n .counters))
       ≡ (0 ∷ 0 ∷ 0 ∷ 0 ∷ 0 ∷ []) ∷ (0 ∷ 0 ∷ 0 ∷ 1 ∷ 0 ∷ []) ∷ (0 ∷ 0 ∷ 1 ∷ 1 ∷ 0 ∷ [])
@@ -155,10 +163,6 @@ pub record Controls : Type 0 where
   pub partial-start : journal (partial (plain 2 2 1 1) 0) (take 8 round)
       ≡ line 0 1 none 0 ++ line 0 3 none 0 ++ line 0 3 none 1 ++ line 0 4 1 2
       ++ line 0 1 none 0 ++ line 0 3 none 0 ++ line 0 3 none 1 ++ line 0 6 none 2
-  -- fresh: 0, 1, 0, 255, 0, 0; and 0 where the setup leaves a place unused
-  pub fresh-processes : map numbers (take 3 (pair .process))
-      ≡ (0 ∷ 1 ∷ 0 ∷ 255 ∷ 0 ∷ 0 ∷ []) ∷ (0 ∷ 1 ∷ 0 ∷ 255 ∷ 0 ∷ 0 ∷ []) ∷ replicate 6 0 ∷ []
-  pub fresh-unused : (pair .counters ≡ 0 ∷ 1 ∷ replicate 14 0) × (pair .words ≡ replicate 64 0) × (pair .queue ≡ replicate 64 0)
   -- each range, its ends, and unused places
   pub out-of-range : map inRange broken ≡ replicate 28 false
   pub at-the-ends : map inRange whole ≡ replicate 12 true

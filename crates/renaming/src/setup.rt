@@ -7,7 +7,7 @@ use machine::answer;
 ghost use mathlib.Core.Path.{_≡_};
 ghost use Rattle.machine.specs.State;
 
-// A count that no setup's counters pass: those of nodes 1 to 15.
+// A count that no setup's counters pass: at most nodes 1 to 15 carry one.
 const EVERY: u64 = 15;
 
 // The setup's second form: the fresh state with so many counters filled, from node l - 1 up to node 1, and the others 0; or 1 to 5, the

@@ -7,7 +7,6 @@ use Rattle.machine.specs.Range.{inRange}
 use Rattle.machine.specs.Setup.{setupAnswer}
 use Rattle.machine.specs.State.{counterAt, withCounter, freshCounter, fresh, partial}
 use Rattle.machine.specs.declared.Done.{Done}
-use Rattle.machine.specs.declared.Setup.{Setup}
 use Rattle.machine.specs.declared.State.{State}
 use Rattle.machine.proofs.Laws.Fresh.{counter-fresh, counter-low}
 use Rattle.machine.proofs.Laws.Partial.{partial-setup, partial-step, filled-counter, zero-counter, partial-in-range}

@@ -1,4 +1,5 @@
-// Setups, events, lists and the gate report, for C. A number of a setup or of an event comes in 32 bits and is refused where it is too large: none is cut.
+// Setups, events, lists and the gate report, for C. A number of a setup or of an event comes in 32 bits and is refused where it is too
+// large, and a count comes in 64: none is cut.
 use crate::narrow;
 use machine::Done;
 use machine::Report;

@@ -14,15 +14,18 @@ use Rattle.machine.proofs.Facts.Leaves.{leaves-high, level-high}
 use Rattle.machine.proofs.Ranges.{Limits, limits-of, in-range}
 use Rattle.machine.proofs.Stores.{fresh-process}
 
+pub fresh-at : (c : Setup) (v : ℕ) → 0 < v → v < c .leaves → freshCounterAt c v ≡ freshCounter c v
+unfolding freshCounterAt
+fresh-at c v low k = rw (lt-ltb 0 v low, lt-ltb v (c .leaves) k)
+
 module _ (c : Setup) (accepted : setupAnswer c ≡ 0) where
   limits : Limits c
   limits = limits-of c accepted
 
   pub counter-fresh : (v : ℕ) → 0 < v → v < c .leaves → counterAt (fresh c) v ≡ freshCounter c v
-  unfolding fresh freshCounterAt
+  unfolding fresh
   counter-fresh v low k =
-      getD-tabulate 16 (freshCounterAt c) v 0 (omega (arith, leaves-high (c .leaves) (limits .leaves)))
-      ∙ rw (lt-ltb 0 v low, lt-ltb v (c .leaves) k)
+      getD-tabulate 16 (freshCounterAt c) v 0 (omega (arith, leaves-high (c .leaves) (limits .leaves))) ∙ fresh-at c v low k
 
   pub counter-low : (v : ℕ) → 0 < v → v < c .leaves → 1 ≤ freshCounter c v
   counter-low v low k =

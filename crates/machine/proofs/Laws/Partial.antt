@@ -5,7 +5,7 @@ use Prim.Native.Nat.{ℕ, _+_, _-_, _≤_, _<_}
 use native.Mathlib.Decide.{decLe, ℕ-discrete}
 use lib.Dec.{ltb}
 use lib.ListN.{set, replicate, length-replicate}
-use Rattle.machine.proofs.Rules.{_≡_, _∙_, sym, ap, refl, true, arith, lt-ltb, le-ltb, lt-leb, le-leb, and-false}
+use Rattle.machine.proofs.Rules.{_≡_, _∙_, sym, ap, refl, true, arith, le-ltb, lt-leb, le-leb, and-false}
 use Rattle.machine.specs.Below.{tabulate}
 use Rattle.machine.specs.Range.{inRange}
 use Rattle.machine.specs.Setup.{setupAnswer}
@@ -15,17 +15,13 @@ use Rattle.machine.specs.declared.Setup.{Setup}
 use Rattle.machine.proofs.Facts.Below.{length-tabulate, getD-tabulate, getD-constant}
 use Rattle.machine.proofs.Facts.Leaves.{leaves-high}
 use Rattle.machine.proofs.Facts.Tabulated.{by-place, tabulate-same, tabulate-set}
-use Rattle.machine.proofs.Laws.Fresh.{fresh-in-range}
+use Rattle.machine.proofs.Laws.Fresh.{fresh-at, fresh-in-range}
 use Rattle.machine.proofs.Laws.Setup.{setup-accepted, setup-refused, partial-accepted, partial-refused}
 use Rattle.machine.proofs.Ranges.{limits-of, ranges-of, in-range}
 use Rattle.machine.proofs.Sized.{fresh-sized}
 use Rattle.machine.proofs.Stores.{set-counters}
 
 module _ (c : Setup) (v : ℕ) where
-  fresh-at : 0 < v → v < c .leaves → freshCounterAt c v ≡ freshCounter c v
-  unfolding freshCounterAt
-  fresh-at low k = rw (lt-ltb 0 v low, lt-ltb v (c .leaves) k)
-
   none-at : v ≤ 0 → freshCounterAt c v ≡ 0
   unfolding freshCounterAt
   none-at k = rw (le-ltb 0 v k)
@@ -35,11 +31,11 @@ module _ (c : Setup) (v : ℕ) where
   none-beyond k = rw (le-ltb v (c .leaves) k, and-false (ltb 0 v))
 
   -- the count reaches node v, or does not
-  pub filled-at : (count : ℕ) → c .leaves ≤ v + count → partialCounterAt c count v ≡ freshCounterAt c v
+  filled-at : (count : ℕ) → c .leaves ≤ v + count → partialCounterAt c count v ≡ freshCounterAt c v
   unfolding partialCounterAt
   filled-at count k = rw (le-leb (c .leaves - v) count (omega arith))
 
-  pub zero-at : (count : ℕ) → v + count < c .leaves → partialCounterAt c count v ≡ 0
+  zero-at : (count : ℕ) → v + count < c .leaves → partialCounterAt c count v ≡ 0
   unfolding partialCounterAt
   zero-at count k = rw (lt-leb (c .leaves - v) count (omega arith))
 

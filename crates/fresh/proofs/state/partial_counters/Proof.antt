@@ -1,9 +1,8 @@
 -- `partial_counters` meets its contract: with each turn of the loop the array has the counters of one count more, and the count that is
 -- reached is the one asked for, or that of every counter. Assumes nothing.
-use mathlib.Core.List.{List}
-use Prim.Native.Nat.{ℕ, _+_, _-_, _≤_, _<_, min}
+use Prim.Native.Nat.{ℕ, _+_, _-_, _≤_, min}
 use native.Mathlib.Decide.{decLe}
-use Rattle.machine.proofs.Rules.{_≡_, _∙_, sym, ap, arith, needs}
+use Rattle.machine.proofs.Rules.{_≡_, _∙_, sym, ap, arith}
 use Rattle.machine.specs.declared.Setup.{Setup}
 use Rattle.machine.proofs.Laws.Partial.{counters, counters-none, counters-next, counters-whole}
 use Rattle.machine.proofs.Ranges.{Limits, limits-of}
