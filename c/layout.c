@@ -142,15 +142,40 @@ static void check_kinds(void) {
     is("answer to a step in the remainder section", zevgorim_step(zevgorim_setup(2, 1, 1, 1).state, 0).answer, ZEVGORIM_NOT_MOVING);
 }
 
+/* the setup with a count: counters by node, the lowest nodes first, then 1 to 5, whatever the count */
+static void check_counts(void) {
+    static const uint8_t counters[][4] = {{0, 0, 0, 0}, {0, 0, 0, 2}, {0, 0, 2, 2}, {0, 4, 2, 2}};
+    static const uint64_t counts[] = {0, 1, 2, 3, 4, 255, 256, 1ull << 32, (1ull << 32) + 1, UINT64_MAX};
+    static const zevgorim_state blank;
+    zevgorim_state fresh = zevgorim_setup(5, 4, 1, 2).state;
+    for (size_t i = 0; i < sizeof counts / sizeof *counts; i++) {
+        zevgorim_done done = zevgorim_partial_setup(5, 4, 1, 2, counts[i]);
+        is("answer of a setup with a count", done.answer, 0);
+        is("counters of a setup with a count", memcmp(done.state.counters, counters[i < 3 ? i : 3], 4), 0);
+        is("report of its state", zevgorim_gate_report(done.state).free, 8);
+        memcpy(done.state.counters, fresh.counters, sizeof fresh.counters);
+        is("what else it gives", same_state(done.state, fresh), 1);
+        static const uint32_t bad[][4] = {{0, 3, 9, 9}, {256, 4, 1, 2}, {5, 3, 9, 9}, {5, 4, 9, 9}, {5, 4, 1, 9}, {5, 16, 8, 8}};
+        static const uint8_t numbers[] = {1, 1, 2, 3, 4, 5};
+        for (size_t k = 0; k < sizeof numbers; k++) {
+            zevgorim_done refused = zevgorim_partial_setup(bad[k][0], bad[k][1], bad[k][2], bad[k][3], counts[i]);
+            is("answer to a bad setup with a count", refused.answer, numbers[k]);
+            is("its state", same_state(refused.state, blank), 1);
+        }
+    }
+}
+
 /* a number above 255 gets the same number of refusal as any other outside its range, and nothing changes */
 static void check_large(uint32_t large) {
     static const zevgorim_state blank;
     for (int place = 0; place < 4; place++) {
         uint32_t n[4] = {2, 1, 1, 1};
         n[place] = large;
-        zevgorim_done done = zevgorim_setup(n[0], n[1], n[2], n[3]);
-        is("answer to a large number of a setup", done.answer, ZEVGORIM_PROCESSES + place);
-        is("state of a refused setup", same_state(done.state, blank), 1);
+        zevgorim_done whole = zevgorim_setup(n[0], n[1], n[2], n[3]), part = zevgorim_partial_setup(n[0], n[1], n[2], n[3], large);
+        is("answer to a large number of a setup", whole.answer, ZEVGORIM_PROCESSES + place);
+        is("answer with a count", part.answer, ZEVGORIM_PROCESSES + place);
+        is("state of a refused setup", same_state(whole.state, blank), 1);
+        is("state with a count", same_state(part.state, blank), 1);
     }
     is("answer to four large numbers", zevgorim_setup(large, large, large, large).answer, ZEVGORIM_PROCESSES);
     zevgorim_state s = zevgorim_request(zevgorim_setup(2, 1, 1, 1).state, 1).state;
@@ -246,6 +271,7 @@ int main(void) {
     check_returns();
     check_sums();
     check_kinds();
+    check_counts();
     check_large(256);
     check_large(257);
     check_large(UINT32_MAX);

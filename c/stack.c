@@ -60,6 +60,7 @@ static zevgorim_done done;
 
 /* accepted and refused */
 PROBE(setup, 8, done = noted_setup(64, 16, 1 + i, 2))
+PROBE(partial_setup, 40, done = noted_partial_setup(64, 16, 1 + i % 4, 2, i / 2))
 PROBE(event, EVENTS + 1, done = noted_event(STATE, KIND, PROCESS))
 PROBE(request, EVENTS + 1, done = noted_request(STATE, PROCESS))
 PROBE(step, EVENTS + 1, done = noted_step(STATE, PROCESS))
@@ -104,6 +105,7 @@ int main(void) {
     make_file();
     puts("bytes of stack, measured and stated:");
     MEASURE(setup, ZEVGORIM_STACK_SETUP);
+    MEASURE(partial_setup, ZEVGORIM_STACK_SETUP);
     MEASURE(event, ZEVGORIM_STACK_EVENT);
     MEASURE(request, ZEVGORIM_STACK_EVENT);
     MEASURE(step, ZEVGORIM_STACK_EVENT);

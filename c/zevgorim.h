@@ -27,7 +27,8 @@
  *
  * What you must do for it
  *
- *   - Start from a state that zevgorim_setup or zevgorim_read_setup gave with answer 0.
+ *   - Start from a state that zevgorim_setup or zevgorim_read_setup gave with answer 0, or zevgorim_partial_setup with a count of L - 1 or
+ *     more.
  *   - Hand the state that a call gave, refused or not, to the next call that changes it, and drop the older one. One writer.
  *   - Store a state with a check sum. A state that was edited or damaged carries no claim, and often no call can tell: answer 15 looks
  *     at the ranges of the numbers, not at whether a list of events leads to them. A later archive may lay a state out anew, so store
@@ -110,10 +111,10 @@ enum {
  * painted stack was written, with the archive as the toolchain compiles it (-O3) and glibc's memcpy and memset, and c/run fails where a
  * call takes more. What the caller's own frame has for the state handed over (534 bytes) and the result (535 bytes) comes on top. */
 enum {
-    ZEVGORIM_STACK_SETUP = 1024,
+    ZEVGORIM_STACK_SETUP = 1024,  /* setup, partial_setup */
     ZEVGORIM_STACK_EVENT = 1280,  /* event, request, step, release, run */
     ZEVGORIM_STACK_REPORT = 1280, /* gate_report, fill_status */
-    ZEVGORIM_STACK_READ_SETUP = 1536,
+    ZEVGORIM_STACK_READ_SETUP = 1664,
     ZEVGORIM_STACK_SMALL = 128, /* file_answer, read_events, write_file, journal_text */
     ZEVGORIM_STACK_FILE_TEXT = 69632
 };
@@ -185,6 +186,12 @@ typedef struct {
 /* The fresh state of N processes, L leaves, g segments in a leaf and b bits in a segment.
  * Refused with 1, 2, 3, 4, 5 in this order: the state is blank, every number 0, and no call accepts it. */
 zevgorim_done zevgorim_setup(uint32_t n, uint32_t l, uint32_t g, uint32_t b);
+
+/* The setup's second form: it stops once so many counters are filled, from node L - 1 up to node 1. The others are 0, all else is fresh.
+ * From a count of L - 1 on it gives what zevgorim_setup gives, number for number. The state of a smaller count is in range and every call
+ * takes it, but nothing above under `What you may rely on` holds from there: processes may be exhausted.
+ * Refused as zevgorim_setup, whatever the count: the state is blank. */
+zevgorim_done zevgorim_partial_setup(uint32_t n, uint32_t l, uint32_t g, uint32_t b, uint64_t count);
 
 
 /* Events: the state after one, or after a list. A refused call gives the state it was lent. */
