@@ -109,6 +109,7 @@ mod calls {
 
     extern "C" {
         pub fn zevgorim_setup(n: u32, l: u32, g: u32, b: u32) -> Done;
+        pub fn zevgorim_partial_setup(n: u32, l: u32, g: u32, b: u32, count: u64) -> Done;
         pub fn zevgorim_event(state: State, kind: u32, process: u32) -> Done;
         pub fn zevgorim_request(state: State, process: u32) -> Done;
         pub fn zevgorim_step(state: State, process: u32) -> Done;
@@ -173,6 +174,11 @@ impl State {
 #[inline]
 pub fn setup(n: u32, l: u32, g: u32, b: u32) -> Done {
     unsafe { calls::zevgorim_setup(n, l, g, b) }
+}
+
+#[inline]
+pub fn partial_setup([n, l, g, b]: [u32; 4], count: u64) -> Done {
+    unsafe { calls::zevgorim_partial_setup(n, l, g, b, count) }
 }
 
 #[inline]

@@ -5,6 +5,7 @@ mod archive;
 mod count;
 mod differ;
 mod lists;
+mod setups;
 mod speed;
 
 use std::process::ExitCode;

@@ -10,12 +10,13 @@ use simulator::day_file::lay_out;
 
 use crate::archive;
 use crate::lists::{fresh, Kind, Setup, KINDS, MOST_EVENTS};
+use crate::setups;
 
 /// Least rounds of a measurement, and least time.
 const ROUNDS: u32 = 200;
 const LEAST: Duration = Duration::from_secs(1);
 /// Calls in one timed run of a call that takes about a microsecond.
-const BATCH: usize = 64;
+pub const BATCH: usize = 64;
 /// Rounds of whole programs.
 const PROGRAM_ROUNDS: u32 = 30;
 /// Events of a list call.
@@ -118,7 +119,7 @@ impl Bout {
 }
 
 /// The best times of both sides, in seconds.
-struct Best {
+pub struct Best {
     archive: f64,
     simulator: f64,
 }
@@ -130,7 +131,7 @@ impl Best {
     };
 
     /// Both times in a unit of that many seconds, and their ratio.
-    fn cells(&self, unit: f64) -> String {
+    pub fn cells(&self, unit: f64) -> String {
         let ratio = self.archive / self.simulator;
         let (archive, simulator) = (self.archive / unit, self.simulator / unit);
         format!("{archive:.2} | {simulator:.2} | {ratio:.2}")
@@ -158,7 +159,7 @@ fn best_times<On, const COUNT: usize>(on: &mut On, all: [fn(&mut On); COUNT]) ->
 }
 
 /// The best times of both sides.
-fn best<On>(on: &mut On, archive: fn(&mut On), simulator: fn(&mut On)) -> Best {
+pub fn best<On>(on: &mut On, archive: fn(&mut On), simulator: fn(&mut On)) -> Best {
     let [archive, simulator] = best_times(on, [archive, simulator]);
     Best { archive, simulator }
 }
@@ -363,5 +364,6 @@ fn print_file() -> io::Result<()> {
 pub fn print() -> io::Result<()> {
     print_lists();
     print_events();
+    setups::print();
     print_file()
 }

@@ -64,7 +64,7 @@ fn place(at: usize) -> String {
         6..=69 => format!("queue place {}", at - 6),
         70..=85 => format!("counter {}", at - 70),
         86..=149 => format!("segment word {}", at - 86),
-        _ => format!("{} of process {}", fields[(at - 150) % 5], (at - 150) / 5),
+        _ => format!("{} of process {}", fields[(at - 150) % 6], (at - 150) / 6),
     }
 }
 

@@ -59,19 +59,25 @@ fn event_answer(state: &State, kind: u32) -> u8 {
 }
 
 impl Differ {
-    /// The setup with one number or more above 255.
+    /// The setup, in both forms, with one number or more above 255.
     pub fn large_setup(&mut self, setup: Setup) -> Check {
         let numbers = enlarged(&mut self.rng, setup);
         let [n, l, g, b] = numbers;
-        let got = archive::setup(n, l, g, b);
+        let count = self.rng.draw() >> self.rng.below(64);
         self.tally.large_setups += 1;
-        same(
-            "the answer to a large number",
-            got.answer,
-            setup_answer(numbers),
-        )
-        .and_then(|()| same_state("a setup with a large number", got.state, &State::BLANK))
-        .map_err(|found| found.given("setup", format_args!("{numbers:?}")))
+        for got in [
+            archive::setup(n, l, g, b),
+            archive::partial_setup(numbers, count),
+        ] {
+            same(
+                "the answer to a large number",
+                got.answer,
+                setup_answer(numbers),
+            )
+            .and_then(|()| same_state("a setup with a large number", got.state, &State::BLANK))
+            .map_err(|found| found.given("setup", format_args!("{numbers:?}, count {count}")))?;
+        }
+        Ok(())
     }
 
     /// The day file of a setup with one number or more above 255: nothing is

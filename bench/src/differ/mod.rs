@@ -1,5 +1,6 @@
 //! Compares the archive's calls with the simulator's.
 
+mod counts;
 mod difference;
 mod files;
 mod large;
@@ -91,9 +92,13 @@ impl Differ {
             self.files(setup, &events)?;
         }
         self.writes(setup, &events)?;
+        for _ in 0..4 {
+            self.partial_setup(setup)?;
+        }
         for _ in 0..8 {
             let setup = lists::any_setup(&mut self.rng);
             self.setup(setup)?;
+            self.partial_setup(setup)?;
             self.large_setup(setup)?;
         }
         Ok(())

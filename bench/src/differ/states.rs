@@ -100,9 +100,9 @@ impl Differ {
         Ok(())
     }
 
-    /// Every call on a hand-made state. The events suit the state, or the
+    /// Every call on a state, hand-made or of a smaller count. The events suit the state, or the
     /// one it was made from if it is broken.
-    fn state(&mut self, from: &State, state: &State) -> Check {
+    pub fn state(&mut self, from: &State, state: &State) -> Check {
         let in_range = state.in_range();
         self.tally.states += 1;
         self.tally.broken_states += u64::from(!in_range);

@@ -12,6 +12,11 @@ pub struct Tally {
     pub setups: u64,
     pub refused_setups: u64,
     pub large_setups: u64,
+    /// Setups with a count.
+    pub partial_setups: u64,
+    pub refused_partial: u64,
+    /// Accepted, with a count below L - 1.
+    pub smaller_counts: u64,
     pub lists: u64,
     pub refused_lists: u64,
     pub list_events: u64,
@@ -78,12 +83,22 @@ impl Tally {
     }
 
     /// Every kind of comparison.
-    fn lines(&self) -> [Line; 19] {
+    fn lines(&self) -> [Line; 21] {
         let refused = |count| Some(("refused", count));
         let [request, step, release] = self.kinds;
         [
             ("setups", self.setups, refused(self.refused_setups)),
             ("setups with a number above 255", self.large_setups, None),
+            (
+                "setups with a count",
+                self.partial_setups,
+                refused(self.refused_partial),
+            ),
+            (
+                "of these with a smaller count, its state given to every call",
+                self.smaller_counts,
+                None,
+            ),
             ("lists", self.lists, refused(self.refused_lists)),
             ("events in lists", self.list_events, None),
             ("events one at a time", self.single_events, None),
