@@ -189,7 +189,7 @@ zevgorim_done zevgorim_setup(uint32_t n, uint32_t l, uint32_t g, uint32_t b);
 
 /* The setup's second form: it stops once so many counters are filled, from node L - 1 up to node 1. The others are 0, all else is fresh.
  * From a count of L - 1 on it gives what zevgorim_setup gives, number for number. The state of a smaller count is in range and every call
- * takes it, but nothing above under `What you may rely on` holds from there: processes may be exhausted.
+ * takes it, but nothing of `What you may rely on` is promised from there: processes may be exhausted.
  * Refused as zevgorim_setup, whatever the count: the state is blank. */
 zevgorim_done zevgorim_partial_setup(uint32_t n, uint32_t l, uint32_t g, uint32_t b, uint64_t count);
 
