@@ -16,7 +16,7 @@ use Rattle.machine.proofs.Laws.Answers.{accepted-in-range, refused-unch
 use Rattle.machine.proofs.Laws.Fresh.{fresh-in-range, blank-out-of-range}
 use Rattle.machine.proofs.Laws.OnePlace.{event-touches, others-unchanged, setup-unchanged}
 use Rattle.machine.proofs.Laws.OnePlace.{unused-process, unused-counter, unused-word, sized-kept}
-use Rattle.machine.proofs.Laws.Partial.{partial-setup, partial-step, partial-in-range, partial-sized}
+use Rattle.machine.proofs.Laws.Partial.{partial-is-setup, one-more-counter, partial-in-range, partial-sized}
 use Rattle.machine.proofs.Laws.Parts.{after-parts, answers-parts, journal-parts, events-parts, journal-length, lent-length}
 use Rattle.machine.proofs.Laws.Room.Gate.{enter-room, await-room}
 use Rattle.machine.proofs.Laws.Room.Getname.{getname-room}
@@ -50,8 +50,8 @@ laws =
       partial-answer = partial-answers;
       accepted-partial = partial-accepted;
       refused-partial = partial-refused;
-      partial-whole = λ c count k. partial-setup c count (λ _. k);
-      partial-next = partial-step;
+      partial-whole = λ c count k. partial-is-setup c count (λ _. k);
+      partial-next = one-more-counter;
       partial-state = partial-in-range;
       partial-lengths = partial-sized;
       accepted = accepted-in-range;

@@ -32,11 +32,11 @@ abbrev pub single : State
 single = fresh (plain 3 1 1 1)
 
 -- setups that are refused with 1 to 5: each is bad in every later way too
-abbrev pub bad : List Setup
-bad = plain 65 3 9 9 ∷ plain 64 3 9 9 ∷ plain 64 16 9 9 ∷ plain 64 16 8 9 ∷ plain 64 16 8 8 ∷ []
+abbrev pub badSetups : List Setup
+badSetups = plain 65 3 9 9 ∷ plain 64 3 9 9 ∷ plain 64 16 9 9 ∷ plain 64 16 8 9 ∷ plain 64 16 8 8 ∷ []
 
-abbrev pub refused : List Done
-refused = done 1 blank ∷ done 2 blank ∷ done 3 blank ∷ done 4 blank ∷ done 5 blank ∷ []
+abbrev pub refusedSetups : List Done
+refusedSetups = done 1 blank ∷ done 2 blank ∷ done 3 blank ∷ done 4 blank ∷ done 5 blank ∷ []
 
 -- process 0 wins by the left leaf and process 1 by the right; 1 gives its name back, then 0
 abbrev pub round : List Event
@@ -145,8 +145,8 @@ numbers h = h .stage ∷ h .node ∷ h .segment ∷ h .name ∷ h .steps ∷ h .
 
 pub record Controls : Type 0 where
   -- setup checks 1 to 5 in that order; so does its second form
-  pub setups : map setup bad ≡ refused
-  pub partial-setups : map (λ c. partialSetup c 9) bad ≡ refused
+  pub setups : map setup badSetups ≡ refusedSetups
+  pub partial-setups : map (λ c. partialSetup c 9) badSetups ≡ refusedSetups
   -- of several clear bits the lowest is set
   pub lowest : setFirstZero 3 0 ≡ record { answer = 0; word = 1 }
   -- counters k / 2^(d+1), by node

@@ -9,7 +9,7 @@ use Rattle.machine.specs.State.{counterAt, withCounter, freshCounter, fresh, pa
 use Rattle.machine.specs.declared.Done.{Done}
 use Rattle.machine.specs.declared.State.{State}
 use Rattle.machine.proofs.Laws.Fresh.{counter-fresh, counter-low}
-use Rattle.machine.proofs.Laws.Partial.{partial-setup, partial-step, filled-counter, zero-counter, partial-in-range}
+use Rattle.machine.proofs.Laws.Partial.{partial-is-setup, one-more-counter, filled-counter, zero-counter, partial-in-range}
 use Rattle.machine.proofs.Laws.Setup.{setup-answers, partial-answers, partial-refused, partial-accepted}
 use Rattle.whole_list.specs.Calls.{PartlySetUp}
 use Rattle.whole_list.specs.Order.{EveryPartialSetup}
@@ -22,13 +22,13 @@ partial-setups c count d₀ d set part =
       accepted = λ a. ap (λ (x : Done). x .answer) part ∙ partial-answers c count ∙ pass a;
       filled = λ a v k l. rw (here a, whole-is a) (filled-counter c count (pass a) v k (omega arith));
       others = λ a v k l. rw (here a) (zero-counter c count (pass a) v k (omega arith));
-      told = λ a v low k. omega (arith, setup-counter a v low k, counter-low c (pass a) v low k);
+      setup-above-0 = λ a v low k. omega (arith, setup-counter a v low k, counter-low c (pass a) v low k);
       rest = λ a. rw (here a, whole-is a) (unfold partial fresh in refl);
-      whole = λ k. part ∙ partial-setup c count (λ _. k) ∙ sym set;
+      whole = λ k. part ∙ partial-is-setup c count (λ _. k) ∙ sym set;
       next = λ a k d₁ more.
           let v : ℕ = c .leaves - 1 - count in
           part-is (count + 1) d₁ more a
-          ∙ partial-step c count (pass a) k
+          ∙ one-more-counter c count (pass a) k
           ∙ ap (λ (n : ℕ). withCounter v n (partial c count)) (sym (setup-counter a v (omega arith) (omega arith)))
           ∙ ap (withCounter v (counterAt (d₀ .state) v)) (sym (here a));
       smaller = λ a k e.

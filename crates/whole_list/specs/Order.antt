@@ -21,7 +21,7 @@ pub record Ordered (c : Setup) (count : ℕ) (d₀ d : Done) : Type 0 where
   pub filled : d₀ .answer ≡ 0 → (v : ℕ) → v < c .leaves → c .leaves - v ≤ count → counterAt (d .state) v ≡ counterAt (d₀ .state) v
   -- the others are 0, which no counter is that the setup gives,
   pub others : d₀ .answer ≡ 0 → (v : ℕ) → v < c .leaves → count < c .leaves - v → counterAt (d .state) v ≡ 0
-  pub told : d₀ .answer ≡ 0 → (v : ℕ) → 0 < v → v < c .leaves → 0 < counterAt (d₀ .state) v
+  pub setup-above-0 : d₀ .answer ≡ 0 → (v : ℕ) → 0 < v → v < c .leaves → 0 < counterAt (d₀ .state) v
   -- all else is fresh.
   pub rest : d₀ .answer ≡ 0 → withCounters (d₀ .state .counters) (d .state) ≡ d₀ .state
   -- From L - 1 on, its result is the setup's number for number.

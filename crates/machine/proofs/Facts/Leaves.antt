@@ -1,7 +1,7 @@
 -- What holds of each of the five numbers of leaves, and of the tree's nodes: one computed test each, and the law that it gives.
 --     by-leaves     a test that 1, 2, 4, 8 and 16 pass, passed by every accepted number of leaves
 --     height-is     2^h = L
---     level-high    a node below L is no deeper than the tree above its leaves
+--     level-high    2^(d+1) is at most L, where d is the depth of a node below L
 --     depth-root, depth-left, depth-right    node 1 has depth 0, and a child lies one level below its parent
 -- Assumes nothing.
 use Prim.Native.Nat.{ℕ, _+_, _*_, _^_, _≤_, _<_}
@@ -54,7 +54,7 @@ pub height-is : (l : ℕ) → isLeaves l ≡ true → 2 ^ height l ≡ l
 unfolding powerIs
 height-is l e = eqb-true (2 ^ height l) l (by-leaves powerIs powers l e)
 
--- the level below each node below L
+-- of each node below L, but for 0
 levelsFit : ℕ → Bool
 levelsFit l = allBelow l (λ v. eqb v 0 || leb (2 ^ (log2 v + 1)) l)
 

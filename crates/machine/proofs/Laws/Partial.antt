@@ -77,8 +77,8 @@ module _ (c : Setup) (count : ℕ) where
   whole-state k = ap (λ (cs : List ℕ). withCounters cs (fresh c)) (counters-whole c count k)
 
   -- only an accepted setup has counters to fill
-  pub partial-setup : (setupAnswer c ≡ 0 → c .leaves ≤ count + 1) → partialSetup c count ≡ setup c
-  partial-setup k = go (ℕ-discrete (setupAnswer c) 0)
+  pub partial-is-setup : (setupAnswer c ≡ 0 → c .leaves ≤ count + 1) → partialSetup c count ≡ setup c
+  partial-is-setup k = go (ℕ-discrete (setupAnswer c) 0)
     where
       go : Dec (setupAnswer c ≡ 0) → partialSetup c count ≡ setup c
       go (yes e) = partial-accepted c count e ∙ ap (done 0) (whole-state (k e)) ∙ sym (setup-accepted c e)
@@ -94,10 +94,10 @@ module _ (c : Setup) (count : ℕ) where
     leaves-16 : c .leaves ≤ 16
     leaves-16 = leaves-high (c .leaves) (limits-of c accepted .leaves)
 
-    pub partial-step : count + 1 < c .leaves
+    pub one-more-counter : count + 1 < c .leaves
         → partial c (count + 1) ≡ withCounter (c .leaves - 1 - count) (freshCounter c (c .leaves - 1 - count)) (partial c count)
     unfolding partial
-    partial-step k =
+    one-more-counter k =
         let v : ℕ = c .leaves - 1 - count in
         ap (λ (cs : List ℕ). withCounters cs (fresh c))
         (sym (counters-next c count v (freshCounter c v) (omega arith) (omega arith) (omega (arith, leaves-16)) refl))
