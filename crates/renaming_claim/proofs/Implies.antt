@@ -54,7 +54,7 @@ module _ {M : ℕ} {s : State} {p : ℕ} (m : Mover M s p) where
     least-steps = omega (arith, by-stage m working e .steps)
 
   pub most-steps : h .steps ≤ height (c .leaves) + c .segments
-  most-steps = shape m .most
+  most-steps = shape m .cost .most
 
   pub fewer-steps : h .stage ≡ getname → h .steps < height (c .leaves) + c .segments
   fewer-steps e =

@@ -101,11 +101,17 @@ module _ (c : Setup) where
     pub within : mark < c .bits
     pub is : name ≡ ((node - c .leaves) * c .segments + segment) * c .bits + mark
 
-  -- With a name in any stage: fewer than M names lie below it. In any stage: at most h + g steps.
+  -- What a claim has cost: at most h + g steps; and whoever took more than h + i of them had come to segment i of a leaf, so that fewer
+  -- than M names lie below that of leaf 0.
+  pub record CostAt (M taken : ℕ) : Type 0 where
+    pub most : taken ≤ height (c .leaves) + c .segments
+    pub tried : (i : ℕ) → height (c .leaves) + i < taken → rank c (i * c .bits) < M
+
+  -- With a name in any stage: fewer than M names lie below it.
   pub record ShapeAt (M stage node segment name taken back : ℕ) : Type 0 where
     pub stands : name ≢ none → StandsAt stage node segment name
     pub low : name ≢ none → rank c name < M
-    pub most : taken ≤ height (c .leaves) + c .segments
+    pub cost : CostAt M taken
     pub by : StageAt stage node segment name taken back
 
   -- the same of a process

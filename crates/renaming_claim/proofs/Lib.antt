@@ -6,9 +6,10 @@ pub mod Mover
 pub mod Bits
 pub mod Gate
 pub mod Bounds
+pub mod Implies
+pub mod Cost
 pub mod Start
 pub mod Preserved
-pub mod Implies
 pub mod Steps
 pub mod Along
 pub mod Rounds

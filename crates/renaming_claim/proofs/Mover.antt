@@ -14,7 +14,6 @@ use Rattle.machine.proofs.Rules.{_≡_, sym, subst, Bool, _≢_, arith, ne-eqb}
 use Rattle.machine.specs.Below.{indicator as ind}
 use Rattle.machine.specs.Range.{ProcessRanges}
 pub use Rattle.machine.specs.declared.Setup.{Setup}
-use Rattle.machine.specs.Setup.{height}
 use Rattle.machine.specs.Stage.{waiting}
 use Rattle.machine.specs.State.{none, noProcess}
 pub use Rattle.machine.specs.State.{processAt}
@@ -26,7 +25,7 @@ use Rattle.machine.proofs.Places.{segments-64}
 use Rattle.machine.proofs.Ranges.{Limits}
 use Rattle.machine.proofs.Valid.{Valid}
 use Rattle.renaming_claim.proofs.Facts.Sums.{ind-le, sum-change}
-use Rattle.renaming_claim.proofs.Invariant.{at, tally, occurs, words, ByStage, Shape, Invariant}
+use Rattle.renaming_claim.proofs.Invariant.{at, tally, occurs, words, CostAt, ByStage, Shape, Invariant}
 
 -- a valid state that keeps the invariant
 pub record Sound (M : ℕ) (s : State) : Type 0 where
@@ -38,9 +37,12 @@ pub record Mover (M : ℕ) (s : State) (p : ℕ) : Type 0 where
   pub sound : Sound M s
   pub known : p < s .setup .processes
 
-pub nameless-shape : (c : Setup) (M : ℕ) (x : Process) → x .name ≡ none → x .steps ≤ height (c .leaves) + c .segments
-    → ByStage c (x .stage) x → Shape c M x
-nameless-shape c M x e most by = record { stands = λ d. absurd (d e); low = λ d. absurd (d e); most = most; by = by }
+-- before the first step
+pub no-cost : (c : Setup) (M : ℕ) → CostAt c M 0
+no-cost c M = record { most = omega arith; tried = λ i k. absurd (omega arith) }
+
+pub nameless-shape : (c : Setup) (M : ℕ) (x : Process) → x .name ≡ none → CostAt c M (x .steps) → ByStage c (x .stage) x → Shape c M x
+nameless-shape c M x e cost by = record { stands = λ d. absurd (d e); low = λ d. absurd (d e); cost = cost; by = by }
 
 module _ {M : ℕ} {s : State} {p : ℕ} (m : Mover M s p) where
   abbrev c : Setup
@@ -109,6 +111,6 @@ module _ {M : ℕ} {s : State} {p : ℕ} (m : Mover M s p) where
     pub shapes-set : Shape c M x → (q : ℕ) → q < c .processes → Shape c M (at stored q)
     shapes-set k q l = getD-set-by (Shape c M) (s .process) p x q noProcess (λ _. k) (inv .shapes q l)
 
-    pub shapes-nameless : (n : ℕ) → x .stage ≡ n → x .name ≡ none → x .steps ≤ height (c .leaves) + c .segments → ByStage c n x
+    pub shapes-nameless : (n : ℕ) → x .stage ≡ n → x .name ≡ none → CostAt c M (x .steps) → ByStage c n x
         → (q : ℕ) → q < c .processes → Shape c M (at stored q)
-    shapes-nameless n e nameless most by = shapes-set (nameless-shape c M x nameless most (subst (λ (i : ℕ). ByStage c i x) (sym e) by))
+    shapes-nameless n e nameless cost by = shapes-set (nameless-shape c M x nameless cost (subst (λ (i : ℕ). ByStage c i x) (sym e) by))

@@ -20,7 +20,7 @@ use Rattle.renaming_claim.proofs.Facts.Sums.{sum-zero}
 use Rattle.renaming_claim.proofs.Facts.Tree.{width, width-level}
 use Rattle.renaming_claim.proofs.Invariant.{tally, beyond, occurs, hasName, inSubtree, inSegments}
 use Rattle.renaming_claim.proofs.Invariant.{nodeFirst, nodeCount, Home, Bound, Invariant}
-use Rattle.renaming_claim.proofs.Mover.{Sound, nameless-shape}
+use Rattle.renaming_claim.proofs.Mover.{Sound, no-cost, nameless-shape}
 use Rattle.renaming_claim.proofs.Regions.{open-is}
 
 module _ (c : Setup) (accepted : setupAnswer c ≡ 0) where
@@ -56,7 +56,7 @@ module _ (c : Setup) (accepted : setupAnswer c ≡ 0) where
       record {
         shapes = λ p k.
             let home : Home freshProcess = record { root = refl; flat = refl; nameless = refl } in
-            rw (process-fresh c accepted p k) (nameless-shape c M freshProcess refl (omega arith) home);
+            rw (process-fresh c accepted p k) (nameless-shape c M freshProcess refl (no-cost c M) home);
         gate =
             record {
               word = (rw (none-yet beyond (unfold beyond in refl)) (omega (arith, open-is c 0 (names c))), refl);

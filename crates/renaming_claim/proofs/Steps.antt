@@ -3,6 +3,7 @@
 -- cases of Own.
 --     event-steps, event-returns    the steps and the returns after an event
 --     claim-steps, claim-next    after a step in getname: one more, and still there or working
+--     claim-accepted    it is never refused
 --     claim-waits    after any other event: as it was
 -- Assumes nothing.
 use Prim.Native.Nat.{ℕ, suc, _%_, _<_}
@@ -51,10 +52,10 @@ module _ {M : ℕ} {s : State} {p : ℕ} (m : Mover M s p) where
   -- the height is at most 4, the segments at most 8 and nothing is returned yet, so that the figure has room
   few-steps : h .stage ≡ getname → figure h < 255
   few-steps e =
-      omega (arith, shape m .most, by-stage m getname e .returns, height-four (c .leaves) (limits m .leaves), limits m .g8)
+      omega (arith, shape m .cost .most, by-stage m getname e .returns, height-four (c .leaves) (limits m .leaves), limits m .g8)
 
   -- a step in getname is accepted
-  claim-accepted : h .stage ≡ getname → event s step p ≡ done 0 (getnameStep s p)
+  pub claim-accepted : h .stage ≡ getname → event s step p ≡ done 0 (getnameStep s p)
   unfolding event Event·step guarded
   claim-accepted e =
       let ranges = m .sound .valid .ranges in

@@ -23,7 +23,7 @@ use Rattle.renaming_claim.proofs.Facts.Sums.{ind-le, sum-le}
 use Rattle.renaming_claim.proofs.Facts.Tree.{under}
 use Rattle.renaming_claim.proofs.Gate.{queue-is, admitted-open, gate-before, gate-resume, gate-enter, gate-join}
 use Rattle.renaming_claim.proofs.Invariant.{tally, occurs, inSubtree, Entering, Gate, Invariant}
-use Rattle.renaming_claim.proofs.Mover.{Setup, Process, State, processAt, Mover, shape, by-stage, stored, shapes-nameless}
+use Rattle.renaming_claim.proofs.Mover.{Setup, Process, State, processAt, Mover, no-cost, shape, by-stage, stored, shapes-nameless}
 
 -- who stands in the tree is admitted
 tree-admitted : (t : State) (u : ℕ) → tally (t .setup) (inSubtree u) (t .process) ≤ admitted t
@@ -45,7 +45,7 @@ module _ {M : ℕ} {s : State} {p : ℕ} (m : Mover M s p) where
   request-keeps e =
       let x : Process = withStage entry freshProcess in
       record {
-        shapes = shapes-nameless m x entry refl refl (omega arith)
+        shapes = shapes-nameless m x entry refl refl (no-cost c M)
             (record { home = record { root = refl; flat = refl; nameless = refl }; steps = refl; returns = refl });
         gate = gate-before m x (omega arith) (omega arith);
         bits = bits-same m x (sym (by-stage m remainder e .nameless));
@@ -65,7 +65,7 @@ module _ {M : ℕ} {s : State} {p : ℕ} (m : Mover M s p) where
         let level : log2 (h .node) ≡ 0 = ap log2 (k .home .root) ∙ depth-root in
         let all = admitted-open t gate (ranges-of t r .queue .entries) in
         record {
-          shapes = shapes-nameless m x getname refl (k .home .nameless) (shape m .most)
+          shapes = shapes-nameless m x getname refl (k .home .nameless) (shape m .cost)
               (record {
                 nameless = k .home .nameless;
                 flat = λ _. k .home .flat;
@@ -88,7 +88,7 @@ module _ {M : ℕ} {s : State} {p : ℕ} (m : Mover M s p) where
         let x : Process = withStage waiting h in
         let room : s .queued < length (s .queue) = omega (arith, ranges-of queueing r .queue .size, m .sound .valid .sized .queue) in
         record {
-          shapes = shapes-nameless m x waiting refl (k .home .nameless) (shape m .most)
+          shapes = shapes-nameless m x waiting refl (k .home .nameless) (shape m .cost)
               (record {
                 home = record { root = k .home .root; flat = k .home .flat; nameless = k .home .nameless };
                 steps = k .steps;

@@ -21,7 +21,8 @@ use Rattle.renaming_claim.proofs.Bits.{Filled, bits-same, bits-win}
 use Rattle.renaming_claim.proofs.Bounds.{stays-put}
 use Rattle.renaming_claim.proofs.Bounds.Levels.{bounds-left, bounds-right}
 use Rattle.renaming_claim.proofs.Bounds.Segments.{low-name, not-last, bounds-next}
-use Rattle.renaming_claim.proofs.Facts.Tree.{leaf-level, depth-le}
+use Rattle.renaming_claim.proofs.Cost.{one-more}
+use Rattle.renaming_claim.proofs.Facts.Tree.{leaf-level}
 use Rattle.renaming_claim.proofs.Gate.{gate-past}
 use Rattle.renaming_claim.proofs.Invariant.{isOpen, words, Claiming, Bounds, Invariant}
 use Rattle.renaming_claim.proofs.Mover.{Setup, Process, State, processAt, Mover, by-stage, own-range}
@@ -52,13 +53,12 @@ module _ {M : ℕ} {s : State} {p : ℕ} (m : Mover M s p) (st : processAt s p .
     abbrev lower : ℕ → State
     lower u = update p (claimed (Left u)) (withCounter v counter s)
 
-    lower-keeps : (u : ℕ) → log2 u ≡ log2 v + 1 → u < 2 * c .leaves
+    lower-keeps : (u : ℕ) → log2 u ≡ log2 v + 1
         → Bounds c M (stored m (claimed (Left u) h)) (set (s .counters) v counter) → Invariant M (lower u)
-    lower-keeps u level inside bounds =
+    lower-keeps u level bounds =
         let x : Process = claimed (Left u) h in
-        let deep = depth-le (c .leaves) (limits m .leaves) inside in
         record {
-          shapes = shapes-nameless m x getname st (claiming .nameless) (omega (arith, claiming .steps, deep, own-range m .segment))
+          shapes = shapes-nameless m x getname st (claiming .nameless) (one-more m st)
               (record {
                 nameless = claiming .nameless;
                 flat = λ _. claiming .flat below;
@@ -72,7 +72,7 @@ module _ {M : ℕ} {s : State} {p : ℕ} (m : Mover M s p) (st : processAt s p .
 
     left-keeps : 0 < counterAt s v → Invariant M (lower (2 * v))
     left-keeps some =
-        lower-keeps (2 * v) (depth-left v (own-range m .node1) (omega (arith, leaves-16 m))) (omega arith)
+        lower-keeps (2 * v) (depth-left v (own-range m .node1) (omega (arith, leaves-16 m)))
         (rw (decrement-is (counterAt s v))
         (bounds-left m (claimed (Left (2 * v)) h) (omega arith) (omega arith) below (claiming .flat below) refl some))
 
@@ -80,7 +80,7 @@ module _ {M : ℕ} {s : State} {p : ℕ} (m : Mover M s p) (st : processAt s p .
     right-keeps empty =
         let unchanged : set (s .counters) v counter ≡ s .counters
         = ap (λ (n : ℕ). set (s .counters) v n) (decrement-is (counterAt s v) ∙ omega arith) ∙ set-getD (s .counters) v 0 in
-        lower-keeps (2 * v + 1) (depth-right v (own-range m .node1) (omega (arith, leaves-16 m))) (omega arith)
+        lower-keeps (2 * v + 1) (depth-right v (own-range m .node1) (omega (arith, leaves-16 m)))
         (rw unchanged (bounds-right m (claimed (Left (2 * v + 1)) h) (omega arith) (omega arith) below (claiming .flat below) refl empty))
 
     descend-keeps : Invariant M (descend s p)
@@ -127,7 +127,7 @@ module _ {M : ℕ} {s : State} {p : ℕ} (m : Mover M s p) (st : processAt s p .
               (record {
                 stands = λ _. record { busy = omega arith; leaf = leafy; mark = f; within = k; is = refl };
                 low = λ _. low-name m st leafy f k (filled f (omega arith));
-                most = omega (arith, claiming .steps, level, own-range m .segment);
+                cost = one-more m st;
                 by =
                     record {
                       named = λ e. omega (arith, limits m .k64, digits-lt r-used k);
@@ -151,7 +151,7 @@ module _ {M : ℕ} {s : State} {p : ℕ} (m : Mover M s p) (st : processAt s p .
           let unchanged : set (s .words) r (setFirstZero (c .bits) w .word) ≡ s .words
           = ap (λ (n : ℕ). set (s .words) r n) word ∙ set-getD (s .words) r 0 in
           record {
-            shapes = shapes-nameless m x getname st (claiming .nameless) (omega (arith, claiming .steps, level, room))
+            shapes = shapes-nameless m x getname st (claiming .nameless) (one-more m st)
                 (record {
                   nameless = claiming .nameless;
                   flat = λ l. absurd (omega arith);

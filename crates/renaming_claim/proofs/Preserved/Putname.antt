@@ -37,7 +37,7 @@ module _ {M : ℕ} {s : State} {p : ℕ} (m : Mover M s p) where
                   let k : Stands c h = shape m .stands d in
                   record { busy = omega arith; leaf = k .leaf; mark = k .mark; within = k .within; is = k .is };
               low = shape m .low;
-              most = shape m .most;
+              cost = shape m .cost;
               by =
                   record {
                     steps = omega (arith, by-stage m working e .steps);
@@ -65,7 +65,7 @@ module _ {M : ℕ} {s : State} {p : ℕ} (m : Mover M s p) where
         let mark : h .name % c .bits ≡ k .mark = ap (λ (n : ℕ). n % c .bits) (k .is) ∙ digits-mod r (k .within) in
         let deep = depth-le (c .leaves) (limits m .leaves) (own-range m .node) in
         record {
-          shapes = shapes-nameless m x putname st refl (shape m .most)
+          shapes = shapes-nameless m x putname st refl (shape m .cost)
               (record {
                 steps = old .steps;
                 named = λ d. absurd (d refl);
@@ -100,7 +100,7 @@ module _ {M : ℕ} {s : State} {p : ℕ} (m : Mover M s p) where
             (λ e.
             let x : Process = returned (withNode u h) in
             record {
-              shapes = shapes-nameless m x putname st nameless (shape m .most) (up (h .returns + 1) (omega arith) (omega arith));
+              shapes = shapes-nameless m x putname st nameless (shape m .cost) (up (h .returns + 1) (omega arith) (omega arith));
               gate = gate-past m x (omega arith) (omega arith);
               bits = bits-same m x refl;
               bounds = bounds-up-left m x (omega arith) (omega arith) above refl (omega (arith, eqb-true (h .node % 2) 0 e));
@@ -108,7 +108,7 @@ module _ {M : ℕ} {s : State} {p : ℕ} (m : Mover M s p) where
             (λ e.
             let x : Process = withNode u h in
             record {
-              shapes = shapes-nameless m x putname st nameless (shape m .most) (up (h .returns) (omega arith) (omega arith));
+              shapes = shapes-nameless m x putname st nameless (shape m .cost) (up (h .returns) (omega arith) (omega arith));
               gate = gate-past m x (omega arith) (omega arith);
               bits = bits-same m x refl;
               bounds = bounds-up-right m x (omega arith) (omega arith) above refl (omega (arith, eqb-false (h .node % 2) 0 e));
@@ -119,7 +119,7 @@ module _ {M : ℕ} {s : State} {p : ℕ} (m : Mover M s p) where
       leave-keeps root =
           let x : Process = withStage remainder (withSegment 0 h) in
           record {
-            shapes = shapes-nameless m x remainder refl nameless (shape m .most) (record { root = root; flat = refl; nameless = nameless });
+            shapes = shapes-nameless m x remainder refl nameless (shape m .cost) (record { root = root; flat = refl; nameless = nameless });
             gate = gate-leave m x (omega arith) (omega arith);
             bits = bits-same m x refl;
             bounds = bounds-leave m x (omega arith) root (omega arith);
