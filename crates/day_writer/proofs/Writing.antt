@@ -2,16 +2,16 @@
 -- behind it is the file. Assumes nothing.
 use mathlib.Core.List.{List, _++_, append-nil, append-assoc}
 use Prim.Native.Nat.{ℕ, _+_, _-_, _%_, _≤_}
-use native.Mathlib.Decide.{ℕ-discrete}
 use borrow.Rule.Slice.PartMut.{putMid}
 use lib.ListN.{length, take, drop, length-append, length-drop}
 use lib.Seq.{sets, take-at, drop-at, take-all, take-length, drop-length, drop-drop}
 use Rattle.machine.proofs.Rules.{_≡_, _≢_, _∙_, sym, ap, refl, leb-true, eqb-true, arith}
 use Rattle.machine.specs.Check.{checked}
-use Rattle.machine.specs.Setup.{setupChecks, setupAnswer}
+use Rattle.machine.specs.Setup.{setupAnswer}
 use Rattle.machine.specs.declared.Setup.{Setup}
-use Rattle.machine.proofs.Facts.Checks.{Passed, all-passed, accepted-with, refused-with}
+use Rattle.machine.proofs.Facts.Checks.{Passed, all-passed}
 use Rattle.machine.proofs.Facts.Lists.{sets-start}
+use Rattle.machine.proofs.Facts.SetupFirst.{first-refused, first-passed, has-setup}
 use Rattle.day_file.specs.Layout.{headSize, longest}
 use Rattle.day_file.specs.Writer.{headBytes, fileBytes, listChecks, writeChecks, writeAnswer}
 
@@ -19,13 +19,13 @@ module _ (c : Setup) (size room : ℕ) where
   abbrev later : ℕ
   later = checked (listChecks size room) (λ a. a) 0
 
-  pub setup-refused : setupAnswer c ≢ 0 → setupAnswer c ≡ writeAnswer c size room
-  unfolding writeAnswer setupAnswer
-  setup-refused n = sym (refused-with (setupChecks c) (λ a. a) later n)
+  pub answer-setup : setupAnswer c ≢ 0 → setupAnswer c ≡ writeAnswer c size room
+  unfolding writeAnswer
+  answer-setup n = sym (first-refused c (listChecks size room) n)
 
-  pub setup-passed : {a : ℕ} → setupAnswer c ≡ 0 → a ≡ later → a ≡ writeAnswer c size room
-  unfolding writeAnswer setupAnswer
-  setup-passed e l = l ∙ sym (accepted-with (setupChecks c) (λ a. a) later refl e)
+  pub answer-list : {a : ℕ} → setupAnswer c ≡ 0 → a ≡ later → a ≡ writeAnswer c size room
+  unfolding writeAnswer
+  answer-list e l = l ∙ sym (first-passed c (listChecks size room) e)
 
   -- what an accepted call has
   module _ (accepted : writeAnswer c size room ≡ 0) where
@@ -33,12 +33,9 @@ module _ (c : Setup) (size room : ℕ) where
     unfolding writeAnswer
     passed = all-passed (writeChecks c size room) refl accepted
 
-    pub has-setup : setupAnswer c ≡ 0
-    has-setup = go (ℕ-discrete (setupAnswer c) 0)
-      where
-        go : Dec (setupAnswer c ≡ 0) → setupAnswer c ≡ 0
-        go (yes e) = e
-        go (no d) = absurd (d (setup-refused d ∙ accepted))
+    pub passed-setup : setupAnswer c ≡ 0
+    unfolding writeAnswer
+    passed-setup = has-setup c (listChecks size room) accepted
 
     pub even : size % 2 ≡ 0
     even = eqb-true (size % 2) 0 (passed .1 .1 .1 .1 .1 .0)

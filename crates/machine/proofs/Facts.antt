@@ -1,4 +1,4 @@
--- Facts that mention no machine: tests, lists, the tree, words, checks, lent buffers.
+-- Facts that mention no machine: tests, lists, the tree, words, checks, a setup's among them, lent buffers.
 pub mod Tests
 pub mod Below
 pub mod Tabulated
@@ -8,4 +8,5 @@ pub mod Sums
 pub mod Words
 pub mod Leaves
 pub mod Checks
+pub mod SetupFirst
 pub mod Filled

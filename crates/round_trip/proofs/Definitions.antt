@@ -15,7 +15,7 @@ use Rattle.machine.proofs.Facts.Filled.{Fills, fills-answer, fills-refused, fil
 use Rattle.day_file.specs.Layout.{Bytes, headSize, longest, bodySetup, fileAnswer, readSetup, readEvents}
 use Rattle.day_file.specs.Writer.{fileBytes, writeChecks, writeAnswer, writeFile, writeBuffer}
 use Rattle.day_file.proofs.Accepted as accepted
-use Rattle.day_writer.proofs.Writing.{setup-passed, has-setup, even, not-long}
+use Rattle.day_writer.proofs.Writing.{answer-list, passed-setup, even, not-long}
 use Rattle.round_trip.specs.Definitions.{fileWritten, fourNumbers, RoundTrips}
 use Rattle.round_trip.proofs.Laid as laid
 use Rattle.round_trip.proofs.Read.{laid-out}
@@ -66,12 +66,12 @@ module _ (c : Setup) (events lent : List ℕ) where
     pub state-back : readSetup (fileWritten c events lent) ≡ done 0 (fresh c)
     state-back =
         rw written-file
-        (laid.setup-back c events (even c _ _ passed) (not-long c _ _ passed) (has-setup c _ _ passed))
+        (laid.setup-back c events (even c _ _ passed) (not-long c _ _ passed) (passed-setup c _ _ passed))
 
     pub events-back : readEvents (fileWritten c events lent) ≡ events
     events-back =
         rw written-file
-        (laid.events-back c events (even c _ _ passed) (not-long c _ _ passed) (has-setup c _ _ passed))
+        (laid.events-back c events (even c _ _ passed) (not-long c _ _ passed) (passed-setup c _ _ passed))
 
 module _ (f lent : List ℕ) (bytes : Bytes f) (answered : fileAnswer f ≡ 0) (room : length f ≤ length lent) where
   is-file : fileBytes (bodySetup f) (drop headSize f) ≡ f
@@ -84,7 +84,7 @@ module _ (f lent : List ℕ) (bytes : Bytes f) (answered : fileAnswer f ≡ 0) (
       let size = length-drop headSize f in
       let long = accepted.long f kept in
       sym
-      (setup-passed (bodySetup f) (length (drop headSize f)) (length lent) (accepted.has-setup f answered)
+      (answer-list (bodySetup f) (length (drop headSize f)) (length lent) (accepted.has-setup f answered)
       (rw (
         eq-eqb (length (drop headSize f) % 2) 0 (ap (λ (k : ℕ). k % 2) size ∙ accepted.even f kept),
         le-leb (headSize + length (drop headSize f)) longest (omega (arith, size, long, accepted.not-long f kept)),

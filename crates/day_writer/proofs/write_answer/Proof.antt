@@ -4,7 +4,7 @@ use lib.Dec.{leb}
 use Rattle.machine.proofs.Rules.{_≡_, _∙_, sym, true, false, arith, needs, tests, le-leb, lt-leb}
 use Rattle.machine.specs.Setup.{plain, setupAnswer}
 use Rattle.day_file.specs.Layout.{headSize, longest}
-use Rattle.day_writer.proofs.Writing.{setup-refused, setup-passed}
+use Rattle.day_writer.proofs.Writing.{answer-setup, answer-list}
 use Rattle.day_writer.proofs.write_answer.Statement.{statement}
 use Rattle.day_writer.proofs.write_answer.Tie as tie
 
@@ -25,12 +25,12 @@ write-answer-spec =
     (tie.spec
     -- the setup is refused
     (λ c κs. search needs)
-    (λ c. let a = c .before .setup-answer .ensures in a ∙ setup-refused _ _ _ (λ e. c .if1 .taken (a ∙ e)))
+    (λ c. let a = c .before .setup-answer .ensures in a ∙ answer-setup _ _ _ (λ e. c .if1 .taken (a ∙ e)))
     -- an odd list
-    (λ c. setup-passed _ _ _ (kept (c .before)) (search tests))
+    (λ c. answer-list _ _ _ (kept (c .before)) (search tests))
     -- a list too long
-    (λ c. search needs) (λ c. setup-passed _ _ _ (kept (c .before .before)) (search (tests, long c)))
+    (λ c. search needs) (λ c. answer-list _ _ _ (kept (c .before .before)) (search (tests, long c)))
     -- a buffer too short
-    (λ c. search needs) (λ c. setup-passed _ _ _ (kept (c .before .before .before)) (search (tests, fitting (c .before))))
+    (λ c. search needs) (λ c. answer-list _ _ _ (kept (c .before .before .before)) (search (tests, fitting (c .before))))
     -- none of these
-    (λ c. setup-passed _ _ _ (kept (c .before .before .before)) (search (tests, fitting (c .before)))))
+    (λ c. answer-list _ _ _ (kept (c .before .before .before)) (search (tests, fitting (c .before)))))
