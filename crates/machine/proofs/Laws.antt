@@ -17,7 +17,8 @@ use Rattle.machine.proofs.Laws.Fresh.{fresh-in-range, blank-out-of-rang
 use Rattle.machine.proofs.Laws.OnePlace.{event-touches, others-unchanged, setup-unchanged}
 use Rattle.machine.proofs.Laws.OnePlace.{unused-process, unused-counter, unused-word, sized-kept}
 use Rattle.machine.proofs.Laws.Partial.{partial-is-setup, one-more-counter, partial-in-range, partial-sized}
-use Rattle.machine.proofs.Laws.Parts.{after-parts, answers-parts, journal-parts, events-parts, journal-length, lent-length}
+use Rattle.machine.proofs.Laws.Parts.{after-parts, answers-parts, journal-parts, events-parts, bytes-events, bytes-length}
+use Rattle.machine.proofs.Laws.Parts.{journal-length, lent-length}
 use Rattle.machine.proofs.Laws.Room.Gate.{enter-room, await-room}
 use Rattle.machine.proofs.Laws.Room.Getname.{getname-room}
 use Rattle.machine.proofs.Laws.Room.Putname.{putname-room}
@@ -78,6 +79,8 @@ laws =
       parts-answers = answers-parts;
       parts-journal = journal-parts;
       parts-bytes = events-parts;
+      read-back = bytes-events;
+      two-bytes = bytes-length;
       four-bytes = journal-length;
       lent-kept = lent-length;
     }

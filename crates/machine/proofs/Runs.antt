@@ -9,7 +9,7 @@ use Rattle.machine.specs.Getname.{side, outcome, descend, probe, getname
 use Rattle.machine.specs.Putname.{giveBack, climb, putnameStep}
 use Rattle.machine.specs.Event.{request, release, guarded, step, event}
 use Rattle.machine.specs.Admitted.{isAdmitted, admitted}
-use Rattle.machine.specs.Lists.{eventsOf, after, answers, entryOf, journal, run, runJournal}
+use Rattle.machine.specs.Lists.{eventsOf, listBytes, after, answers, entryOf, journal, run, runJournal}
 use Rattle.machine.specs.Reports.{positivePart, gateReport, statusAnswer, statusRecords}
 
 -- `unfolding machine` opens every definition that a run goes through
@@ -17,6 +17,6 @@ unfoldable pub machine : Unit {0}
 unfolding
     allBelow sumBelow tabulate isLeaves setupAnswer log2 firstZero setFirstZero clrBit boundedDecrement freshCounterAt freshProcessAt
     fresh blank setup partialCounterAt partial partialSetup gateInRange inRange above0 among movedUp headGone enter await leave side
-    outcome descend probe getnameStep giveBack climb putnameStep request release guarded step event isAdmitted admitted eventsOf after
-    answers entryOf journal run runJournal positivePart gateReport statusAnswer statusRecords
+    outcome descend probe getnameStep giveBack climb putnameStep request release guarded step event isAdmitted admitted eventsOf listBytes
+    after answers entryOf journal run runJournal positivePart gateReport statusAnswer statusRecords
 machine = tt

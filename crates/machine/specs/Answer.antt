@@ -71,3 +71,7 @@ tooLong = 16
 -- Document 02, a): the buffer is shorter than the file
 abbrev pub noRoom : ℕ
 noRoom = 17
+
+-- Document 02, d): the buffer is under 4,096 bytes
+abbrev pub smallBuffer : ℕ
+smallBuffer = 18

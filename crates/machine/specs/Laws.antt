@@ -8,7 +8,7 @@ use lib.ListN.{length, getD}
 use Rattle.machine.specs.Event.{event}
 use Rattle.machine.specs.Gate.{headGone, enter, await}
 use Rattle.machine.specs.Getname.{getnameStep}
-use Rattle.machine.specs.Lists.{Event, eventsOf, after, answers, journal, runJournal}
+use Rattle.machine.specs.Lists.{Event, eventsOf, listBytes, after, answers, journal, runJournal}
 use Rattle.machine.specs.Operations.{bit, firstZero, clrBit}
 use Rattle.machine.specs.Putname.{putnameStep}
 use Rattle.machine.specs.Range.{inRange}
@@ -90,6 +90,9 @@ pub record Laws : Type 0 where
   pub parts-answers : (s : State) (es fs : List Event) → answers s (es ++ fs) ≡ answers s es ++ answers (after s es) fs
   pub parts-journal : (s : State) (es fs : List Event) → journal s (es ++ fs) ≡ journal s es ++ journal (after s es) fs
   pub parts-bytes : (bytes more : List ℕ) → length bytes % 2 ≡ 0 → eventsOf (bytes ++ more) ≡ eventsOf bytes ++ eventsOf more
+  -- the bytes of a list of events, two for each, are read back as its events
+  pub read-back : (es : List Event) → eventsOf (listBytes es) ≡ es
+  pub two-bytes : (es : List Event) → length (listBytes es) ≡ 2 * length es
   -- the journal's length is four times the events, and a lent journal keeps its length
   pub four-bytes : (s : State) (es : List Event) → length (journal s es) ≡ 4 * length es
   pub lent-kept : (s : State) (bytes lent : List ℕ) → length (runJournal s bytes lent) ≡ length lent

@@ -18,11 +18,19 @@ pub record Event : Type 0 where
   pub kind : ℕ
   pub process : ℕ
 
+abbrev pub eventOf : ℕ → ℕ → Event
+eventOf kind p = record { kind = kind; process = p }
+
 -- An event is two bytes: kind, process. (A byte left over is no event: an odd list is refused.)
 unfoldable pub eventsOf : List ℕ → List Event
 eventsOf [] = []
 eventsOf (k ∷ []) = []
-eventsOf (k ∷ p ∷ bytes) = record { kind = k; process = p } ∷ eventsOf bytes
+eventsOf (k ∷ p ∷ bytes) = eventOf k p ∷ eventsOf bytes
+
+-- the bytes of a list, the other way round
+unfoldable pub listBytes : List Event → List ℕ
+listBytes [] = []
+listBytes (e ∷ es) = e .kind ∷ e .process ∷ listBytes es
 
 abbrev pub eventDone : State → Event → Done
 eventDone s e = event s (e .kind) (e .process)

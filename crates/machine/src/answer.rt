@@ -34,3 +34,5 @@ pub const BROKEN_STATE: u8 = 15; // broken state
 pub const TOO_LONG: u8 = 16; // document 02, a): the file would pass 32,768 bytes
 
 pub const NO_ROOM: u8 = 17; // document 02, a): the buffer is shorter than the file
+
+pub const SMALL_BUFFER: u8 = 18; // document 02, d): the buffer is under 4,096 bytes

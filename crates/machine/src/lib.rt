@@ -87,3 +87,11 @@ pub struct Written {
     pub answer: u8,
     pub size: usize,
 }
+
+// What the call of the dearest list answers: 0 or the number of a refusal, the dearest claim's figure, and how many bytes it wrote.
+#[repr(C)]
+pub struct DearestList {
+    pub answer: u8,
+    pub figure: u8,
+    pub size: usize,
+}

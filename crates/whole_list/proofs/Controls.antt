@@ -8,14 +8,14 @@ use denote.Ref.{RefT}
 use lib.ListN.{replicate}
 use Rattle.machine.proofs.Rules.{refl, _≡_, arith}
 use Rattle.machine.specs.Event.{event}
-use Rattle.machine.specs.Lists.{Event, eventDone, eventsOf, after, run, runJournal}
+use Rattle.machine.specs.Lists.{Event, eventOf, eventDone, eventsOf, after, run, runJournal}
 use Rattle.machine.specs.Setup.{plain}
 use Rattle.machine.specs.State.{setup, partialSetup, processAt}
 use Rattle.machine.specs.declared.Done.{Done}
 use Rattle.machine.specs.declared.Setup.{Setup}
 use Rattle.machine.specs.declared.State.{State}
 use Rattle.machine.proofs.Runs.{machine}
-use Rattle.whole_list.specs.Calls.{SetUp, PartlySetUp, eventOf, by-event, by-request, by-step, by-release}
+use Rattle.whole_list.specs.Calls.{SetUp, PartlySetUp, by-event, by-request, by-step, by-release}
 use Rattle.whole_list.specs.Calls.{ListCall, resultsOf, Calls, none, call, list, refused-list}
 
 pub chain-of : (s : State) (es : List Event) → Calls s es (resultsOf s es) (after s es)

@@ -8,7 +8,7 @@ use Prim.Native.Nat.{ℕ, zero, suc}
 use contract.Lifetimes.{Lfts}
 use denote.Ref.{RefT, now}
 use Rattle.machine.specs.Kind.{request, step, release}
-use Rattle.machine.specs.Lists.{Event, eventDone, eventsOf, entryBytes}
+use Rattle.machine.specs.Lists.{Event, eventOf, eventDone, eventsOf, entryBytes}
 use Rattle.machine.specs.State.{processAt}
 use Rattle.machine.specs.declared.Done.{Done}
 use Rattle.machine.specs.declared.Setup.{Setup}
@@ -28,9 +28,6 @@ SetUp c d = setup-reads.Learnt tt (c, tt) d (c, tt)
 -- `partial_setup(c, count)` gave d
 abbrev pub PartlySetUp : Setup → ℕ → Done → Type 0
 PartlySetUp c count d = partial-setup-reads.Learnt tt (c, (count, tt)) d (c, (count, tt))
-
-abbrev pub eventOf : ℕ → ℕ → Event
-eventOf kind p = record { kind = kind; process = p }
 
 -- a call lent s and given the event gave d: `event(s, kind, p)`, or `request(s, p)`, `step(s, p)` or `release(s, p)`
 pub data Called (s : State) : Event → Done → Type 0 where

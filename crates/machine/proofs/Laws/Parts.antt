@@ -1,11 +1,11 @@
--- Running a list is running its parts in turn, and the journal has four bytes for each event: by induction on the list.
+-- Running a list is running its parts in turn; an event is two bytes, and the journal has four for each: by induction on the list.
 -- Assumes nothing.
 use mathlib.Core.List.{List, [], _∷_, _++_, append-assoc}
 use Prim.Native.Nat.{ℕ, _*_, _/_, _%_}
 use lib.Dec.{eqb, leb}
 use lib.ListN.{length, drop, length-append, length-drop}
 use Rattle.machine.proofs.Rules.{_≡_, _∙_, sym, ap, refl, _||_, arith, leb-true}
-use Rattle.machine.specs.Lists.{Event, eventsOf, eventDone, after, answers, entryOf, journal, journalLength, runJournal}
+use Rattle.machine.specs.Lists.{Event, eventOf, eventsOf, listBytes, eventDone, after, answers, entryOf, journal, journalLength, runJournal}
 use Rattle.machine.specs.Range.{inRange}
 use Rattle.machine.specs.declared.State.{State}
 use Rattle.machine.proofs.Facts.Tests.{by-cond}
@@ -32,7 +32,22 @@ unfolding eventsOf
 events-parts [] more e = refl
 events-parts (k ∷ []) more e = absurd (omega arith)
 events-parts (k ∷ p ∷ bytes) more e =
-    ap (λ (es : List Event). record { kind = k; process = p } ∷ es) (events-parts bytes more (omega arith))
+    ap (λ (es : List Event). eventOf k p ∷ es) (events-parts bytes more (omega arith))
+
+pub bytes-events : (es : List Event) → eventsOf (listBytes es) ≡ es
+unfolding eventsOf listBytes
+bytes-events [] = refl
+bytes-events (e ∷ es) = ap (λ (fs : List Event). e ∷ fs) (bytes-events es)
+
+pub bytes-length : (es : List Event) → length (listBytes es) ≡ 2 * length es
+unfolding listBytes
+bytes-length [] = refl
+bytes-length (e ∷ es) = omega (arith, bytes-length es)
+
+pub bytes-parts : (es fs : List Event) → listBytes (es ++ fs) ≡ listBytes es ++ listBytes fs
+unfolding listBytes
+bytes-parts [] fs = refl
+bytes-parts (e ∷ es) fs = ap (λ (l : List ℕ). e .kind ∷ e .process ∷ l) (bytes-parts es fs)
 
 pub events-length : (bytes : List ℕ) → length (eventsOf bytes) ≡ length bytes / 2
 unfolding eventsOf
