@@ -15,6 +15,7 @@ use Rattle.machine.specs.declared.Setup.{Setup}
 use Rattle.machine.specs.declared.State.{State}
 use Rattle.machine.proofs.Ranges.{ranges-of}
 use Rattle.day_file.specs.Writer.{fileBytes, listChecks, writeFile, writeBuffer}
+use Rattle.dearest_claim.specs.Dearest.{dearestFigure, dearestBytes, bufferChecks, dearestOf, dearestList, dearestBuffer}
 use Rattle.zevgorim.specs.Narrow.{narrow}
 
 -- what gives the same at 255 as at every larger number gives the same at a number and at its byte
@@ -70,6 +71,23 @@ module _ (n l g b : ℕ) (events lent : List ℕ) where
   unfolding writeBuffer
   buffer-narrowed =
       checks-narrowed (λ a. lent) (λ c. later (λ a. lent) (fileBytes c events ++ drop (length (fileBytes c events)) lent)) n l g b
+
+-- the check of the buffer is the same for every setup
+module _ (n l g b : ℕ) (lent : List ℕ) where
+  abbrev small : {A : Type 0} → (ℕ → A) → A → A
+  small = checked (bufferChecks (length lent))
+
+  pub dearest-narrowed : dearestList (plain (narrow n) (narrow l) (narrow g) (narrow b)) lent ≡ dearestList (plain n l g b) lent
+  unfolding dearestList
+  dearest-narrowed =
+      checks-narrowed (λ a. dearestOf a 0 0)
+      (λ c. small (λ a. dearestOf a 0 0) (dearestOf 0 (dearestFigure c) (length (dearestBytes c)))) n l g b
+
+  pub dearest-buffer-narrowed :
+      dearestBuffer (plain (narrow n) (narrow l) (narrow g) (narrow b)) lent ≡ dearestBuffer (plain n l g b) lent
+  unfolding dearestBuffer
+  dearest-buffer-narrowed =
+      checks-narrowed (λ a. lent) (λ c. small (λ a. lent) (dearestBytes c ++ drop (length (dearestBytes c)) lent)) n l g b
 
 large-kind : (s : State) (p x : ℕ) → 255 < x → event s 255 p ≡ event s x p
 unfolding event

@@ -1,5 +1,6 @@
 // The calls for C, behind a prefix. A slice is a pointer and its length.
 pub mod files;
+pub mod lists;
 mod narrow;
 pub mod records;
 pub mod states;
