@@ -35,3 +35,5 @@ pub const BROKEN_STATE: u8 = 15;
 pub const TOO_LONG: u8 = 16;
 /// Document 02, request a: the buffer is shorter than the file.
 pub const NO_ROOM: u8 = 17;
+/// Document 02, request d: the buffer is under 4,096 bytes.
+pub const SMALL_BUFFER: u8 = 18;

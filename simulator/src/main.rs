@@ -6,13 +6,14 @@ use std::path::Path;
 use std::process::ExitCode;
 use std::{env, fs};
 
-use simulator::{calls, cases, file_text, morning, rolls, writes};
+use simulator::{calls, cases, dearest, file_text, morning, rolls, writes};
 
 const USAGE: &str = "usage: simulator run FILE
        simulator cases SEED COUNT DIR
        simulator calls SEED COUNT DIR
        simulator rolls SEED COUNT DIR
        simulator writes SEED COUNT DIR
+       simulator dearest DIR
        simulator morning SEED FILE";
 
 enum Failure {
@@ -66,6 +67,7 @@ fn command(arguments: &[OsString]) -> Result<(), Failure> {
             let (seed, count) = (number(seed)?, number(count)?);
             Ok(writes::write(seed, count, Path::new(folder))?)
         }
+        (Some("dearest"), [folder]) => Ok(dearest::write(Path::new(folder))?),
         (Some("morning"), [seed, file]) => Ok(fs::write(file, morning::file(number(seed)?))?),
         _ => Err(Failure::Usage),
     }

@@ -3,6 +3,9 @@
 mod bounds;
 mod cost_calls;
 mod costs;
+mod dearest;
+mod dearest_calls;
+mod dearest_search;
 mod generators;
 mod orders;
 mod partial_calls;

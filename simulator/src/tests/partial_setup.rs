@@ -131,7 +131,7 @@ fn neighbouring_counts_differ_at_one_counter() {
 }
 
 /// The first refusal in the documents' order, or 0.
-fn refusal(setup: [u8; 4]) -> u8 {
+pub fn refusal(setup: [u8; 4]) -> u8 {
     let [n, l, g, b] = setup.map(usize::from);
     let checks = [
         !(1..=64).contains(&n),

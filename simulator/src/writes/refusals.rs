@@ -39,7 +39,7 @@ const ACCEPTED: [[u8; 4]; 14] = [
 
 /// Too many names: 70 is the least product above 64; 256, 320 and 1,024 are
 /// 0, 64 and 0 in one byte. No number of a setup is checked later.
-const MANY_NAMES: [[u8; 4]; 6] = [
+pub(crate) const MANY_NAMES: [[u8; 4]; 6] = [
     [12, 2, 5, 7],
     [64, 16, 5, 1],
     [64, 16, 2, 3],
@@ -49,7 +49,7 @@ const MANY_NAMES: [[u8; 4]; 6] = [
 ];
 
 /// One number outside its limits.
-const ONE_FAULT: [[u8; 4]; 18] = [
+pub(crate) const ONE_FAULT: [[u8; 4]; 18] = [
     // Processes.
     [0, 4, 2, 1],
     [65, 4, 2, 1],
@@ -75,7 +75,7 @@ const ONE_FAULT: [[u8; 4]; 18] = [
 ];
 
 /// The same numbers, each with every later fault of a setup.
-const LATER_FAULTS: [[u8; 4]; 18] = [
+pub(crate) const LATER_FAULTS: [[u8; 4]; 18] = [
     // Processes.
     [0, 3, 9, 9],
     [65, 17, 9, 9],
@@ -100,7 +100,8 @@ const LATER_FAULTS: [[u8; 4]; 18] = [
     [12, 16, 8, 255],
 ];
 
-fn setup(has: impl Fn(u8) -> bool) -> [u8; 4] {
+/// A setup with the faults that `has` names and no other.
+pub(crate) fn setup_with(has: impl Fn(u8) -> bool) -> [u8; 4] {
     let pick = |fault, wrong, right| if has(fault) { wrong } else { right };
     if has(NAMES) {
         [
@@ -129,7 +130,7 @@ pub fn faulty(faults: &[u8]) -> Call {
         (true, true) => ODD_AND_TOO_LONG,
     };
     let room = EVENTS_AT + length - usize::from(has(NO_ROOM));
-    Call::padded(setup(has), &P11_EVENTS, length).with_room(room)
+    Call::padded(setup_with(has), &P11_EVENTS, length).with_room(room)
 }
 
 pub fn calls() -> Vec<Call> {
