@@ -16,6 +16,8 @@ _Static_assert(sizeof(zevgorim_done) == 535 && offsetof(zevgorim_done, state) ==
 _Static_assert(sizeof(zevgorim_report) == 3 && offsetof(zevgorim_report, free) == 1, "report");
 _Static_assert(sizeof(zevgorim_status) == 3 && offsetof(zevgorim_status, name) == 1, "status");
 _Static_assert(sizeof(zevgorim_written) == 16 && offsetof(zevgorim_written, size) == 8, "written");
+_Static_assert(sizeof(zevgorim_dearest) == 16 && offsetof(zevgorim_dearest, figure) == 1, "dearest");
+_Static_assert(offsetof(zevgorim_dearest, size) == 8, "dearest");
 _Static_assert(sizeof(zevgorim_part) == 16 && offsetof(zevgorim_part, size) == 8, "part");
 
 static int wrong;
@@ -265,6 +267,33 @@ static void check_write(void) {
     is("answer of the longest file", zevgorim_file_answer(long_file, sizeof long_file), 0);
 }
 
+/* the dearest list of a setup, and of nothing less than its buffer; then each refusal */
+static void check_dearest(void) {
+    static const uint8_t list[] = {0, 0, 1, 0, 1, 0, 1, 0, 0, 1, 1, 1, 1, 1, 1, 1, 1, 1};
+    static const uint32_t bad[][4] = {{0, 3, 9, 9}, {256 + 2, 2, 2, 1}, {2, 3, 9, 9}, {2, 2, 256 + 2, 1}, {2, 2, 2, UINT32_MAX}, {2, 16, 8, 8}};
+    static const uint8_t numbers[] = {1, 1, 2, 3, 4, 5};
+    static uint8_t out[4096], lent[4096];
+    memset(lent, 170, sizeof lent);
+    memcpy(out, lent, sizeof out);
+    for (size_t i = 0; i < sizeof numbers + 2; i++) {
+        int setup = i < sizeof numbers;
+        zevgorim_dearest refused = setup ? zevgorim_dearest_list(bad[i][0], bad[i][1], bad[i][2], bad[i][3], out, i % 2 * sizeof out)
+                                         : zevgorim_dearest_list(2, 2, 2, 1, out, i % 2 * (sizeof out - 1));
+        is("answer of a refused dearest list", refused.answer, setup ? numbers[i] : ZEVGORIM_SMALL_BUFFER);
+        is("its figure and size", refused.figure + (long)refused.size, 0);
+        is("its buffer", memcmp(out, lent, sizeof out), 0);
+    }
+    zevgorim_dearest made = zevgorim_dearest_list(2, 2, 2, 1, out, sizeof out);
+    is("answer of the dearest list", made.answer, 0);
+    is("its figure", made.figure, 3);
+    is("its size", (long)made.size, (long)sizeof list);
+    is("the list", memcmp(out, list, sizeof list), 0);
+    is("bytes past the list", memcmp(out + sizeof list, lent, sizeof out - sizeof list), 0);
+    zevgorim_state s = run(zevgorim_setup(2, 2, 2, 1).state, out, made.size);
+    is("stage of the dearest holder", s.process[1].stage, ZEVGORIM_WORKING);
+    is("steps of the dearest holder", s.process[1].steps, made.figure);
+}
+
 int main(void) {
     check_fresh();
     check_run();
@@ -278,6 +307,7 @@ int main(void) {
     check_edges();
     check_file();
     check_write();
+    check_dearest();
     puts(wrong ? "the header does not fit the archive" : "the header fits the archive");
     return wrong;
 }

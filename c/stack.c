@@ -71,6 +71,7 @@ PROBE(fill_status, 65, seen += noted_fill_status(last, roll, i))
 PROBE(read_setup, 2, done = noted_read_setup(file, i ? FILE_SIZE : 26))
 PROBE(read_events, 2, seen += noted_read_events(file, i ? FILE_SIZE : 26).size)
 PROBE(write_file, 4, seen += noted_write_file(64, 16, 2, 2, file + 27, FILE_SIZE - 27 - i % 2, out, i < 2 ? sizeof out : 27).size)
+PROBE(dearest_list, 8, seen += noted_dearest_list(64, 1, 1 + i, 8, out, i < 7 ? sizeof out : 4095).size)
 PROBE(file_answer, 2, seen += noted_file_answer(file, i ? FILE_SIZE : 26))
 PROBE(journal_text, 2, seen += noted_journal_text(journal, sizeof journal, out, i ? sizeof out : 9).size)
 PROBE(file_text, 3, seen += noted_file_text(file, i ? FILE_SIZE : 26, out, i < 2 ? sizeof out : 9).size)
@@ -118,6 +119,7 @@ int main(void) {
     MEASURE(file_answer, ZEVGORIM_STACK_SMALL);
     MEASURE(write_file, ZEVGORIM_STACK_SMALL);
     MEASURE(journal_text, ZEVGORIM_STACK_SMALL);
+    MEASURE(dearest_list, ZEVGORIM_STACK_SMALL);
     MEASURE(file_text, ZEVGORIM_STACK_FILE_TEXT);
     puts(wrong ? "a call takes more stack than the header says" : "no call takes more stack than the header says");
     return wrong;

@@ -20,6 +20,8 @@
  *     the right and not the gate. A process in its remainder section [idle] after a full round has steps + returns from h + 2 to
  *     2h + g + 1. Journal and status records show this sum.
  *   - A process in getname holds a name directly after one of the next h + g steps given to it at the latest, whatever comes between.
+ *   - The number steps of no process, working or not, is above h + the smaller of g and 1 + (N - 1) / b, rounded down. A list of events
+ *     with which a working process has exactly so many is what zevgorim_dearest_list writes.
  *
  * This, what each call below gives and writes, and that every call ends, is proved of the Rattle source, for every argument that keeps
  * to `Lent memory` below. The radio lies outside: a frame that is heard twice is two events, and which handset sent it no call asks.
@@ -83,7 +85,8 @@ enum {
     ZEVGORIM_ODD = 14,          /* [odd]          list of an odd number of bytes */
     ZEVGORIM_BROKEN_STATE = 15, /* [broken state] a number of the state outside its range, or a step that would take one outside */
     ZEVGORIM_TOO_LONG = 16,     /* the day file to be written would pass 32,768 bytes */
-    ZEVGORIM_NO_ROOM = 17       /* a lent buffer is shorter than the day file to be written */
+    ZEVGORIM_NO_ROOM = 17,      /* a lent buffer is shorter than the day file to be written */
+    ZEVGORIM_SMALL_BUFFER = 18  /* a buffer lent for the dearest list is under 4,096 bytes */
 };
 
 /* Kinds of event. */
@@ -115,7 +118,7 @@ enum {
     ZEVGORIM_STACK_EVENT = 1280,  /* event, request, step, release, run */
     ZEVGORIM_STACK_REPORT = 1280, /* gate_report, fill_status */
     ZEVGORIM_STACK_READ_SETUP = 1664,
-    ZEVGORIM_STACK_SMALL = 128, /* file_answer, read_events, write_file, journal_text */
+    ZEVGORIM_STACK_SMALL = 128, /* file_answer, read_events, write_file, journal_text, dearest_list */
     ZEVGORIM_STACK_FILE_TEXT = 69632
 };
 
@@ -174,6 +177,13 @@ typedef struct {
     size_t size; /* bytes written */
 } zevgorim_written;
 
+/* The dearest claim's list in a lent buffer. */
+typedef struct {
+    uint8_t answer;
+    uint8_t figure; /* [figure] the steps that the dearest claim costs */
+    size_t size;    /* bytes written */
+} zevgorim_dearest;
+
 /* A part of a lent file. */
 typedef struct {
     size_t offset;
@@ -220,6 +230,16 @@ zevgorim_report zevgorim_gate_report(zevgorim_state state);
 /* A status record for each process in rising order [roll]; records from N on are untouched. Gives the answer.
  * Refused with 15, then 13 when there are fewer than N records: nothing is written. */
 uint8_t zevgorim_fill_status(zevgorim_state state, zevgorim_status *records, size_t records_len);
+
+
+/* The dearest claim of a setup, for planning */
+
+/* Writes a list of events, two bytes each, in which one process's claim costs the most steps possible, at the start of a lent buffer, and
+ * says that figure and how many bytes it wrote. No list from the setup's fresh state makes a claim cost more; zevgorim_run on that state and
+ * this list, of which no event is refused, leaves a process in stage 4 whose steps are the figure. Bytes past the list are untouched.
+ * Refused with 1 to 5 for the setup, then 18 when the buffer is under 4,096 bytes, however short the list is: nothing is written, and the
+ * figure and the size are 0. */
+zevgorim_dearest zevgorim_dearest_list(uint32_t n, uint32_t l, uint32_t g, uint32_t b, uint8_t *out, size_t out_len);
 
 
 /* The day file: a setup and its events, 27 to 32,767 bytes. */
