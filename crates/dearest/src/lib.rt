@@ -94,9 +94,9 @@ fn put_claims(out: &mut [u8], setup: Setup, count: u8) -> usize
 fn list_answer(setup: Setup, room: usize) -> u8
     ensures { λ r. ⌜ r ≡ dearestAnswer setup room ⌝ }
 {
-    let refused = limits::setup_answer(setup);
-    if refused != answer::ACCEPTED {
-        return refused;
+    let a = limits::setup_answer(setup);
+    if a != answer::ACCEPTED {
+        return a;
     }
     if room < ROOM {
         return answer::SMALL_BUFFER;

@@ -1,6 +1,6 @@
 -- How long the list is: each claim takes at most 14 events, and at most 64 processes claim.
 --     dear-known, dear-inside    the dear process is one of the setup's, and its name one of leaf 0
---     figure-few       the figure is at most 12
+--     figure-byte      the figure fits a byte
 --     steps-few        the steps of a claim
 --     claims-length    the events of the first n claims
 -- Assumes nothing.
@@ -30,8 +30,8 @@ module _ (c : Setup) (accepted : setupAnswer c ≡ 0) where
       let fewer : suc (tried c - 1) ≤ c .segments = omega (arith, limits .g1) in
       omega (arith, mul-le-mul-right (c .bits) fewer, limits .b1)
 
-  pub figure-few : dearestFigure c ≤ 12
-  figure-few = omega (arith, height-four (c .leaves) (limits .leaves), limits .g8)
+  pub figure-byte : dearestFigure c < 256
+  figure-byte = omega (arith, height-four (c .leaves) (limits .leaves), limits .g8)
 
   pub steps-few : (p : ℕ) → p < c .segments * c .bits → stepsOf c p ≤ 13
   steps-few p inside =

@@ -31,7 +31,7 @@ module _ (c : Setup) (accepted : setupAnswer c ≡ 0) where
         sound = list-steady (fresh c) (start-sound c accepted (c .processes)) es;
         known = omega (arith, ap (λ (d : Setup). d .processes) same);
       } in
-      rw same at (cost-most (t .setup) (t .setup .processes) (limits m .b1) (shape m .cost))
+      omega (arith, rw same at (cost-most (t .setup) (t .setup .processes) (limits m .b1) (shape m .cost)))
 
   -- the claims before the dear process's, and its own
   before : Ready c (dear c) (afterList c (claims c (dear c))) × Accepted (fresh c) (claims c (dear c))

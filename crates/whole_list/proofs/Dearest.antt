@@ -123,7 +123,7 @@ module _ (κs : Lfts 1) (c : Setup) (d : Done) (out out′ : RefT (List ℕ)) (l
   holds : Dearest c d (now out) l (now out′)
   holds =
       record {
-        accepted = λ a k. answer-is ∙ answer-buffer c room (sym setup-is ∙ a) ∙ rw (le-leb 4096 room k);
+        accepted = λ a k. answer-is ∙ answer-buffer c room (sym setup-is ∙ a) ∙ rw (le-leb 4096 room (omega (arith, k)));
         figure = figure-is;
         most = most;
         shows = shows;

@@ -12,7 +12,7 @@ use Rattle.machine.proofs.Facts.Lists.{sets-start}
 use Rattle.machine.proofs.Ranges.{Limits, limits-of}
 use Rattle.dearest_claim.specs.Dearest.{tried, claims, dear, dearestBytes, dearestAnswer, dearestOf}
 use Rattle.dearest_claim.proofs.Call.{passed-setup, passed-buffer, refused-list, accepted-list}
-use Rattle.dearest_claim.proofs.Sizes.{dear-known, figure-few}
+use Rattle.dearest_claim.proofs.Sizes.{dear-known, figure-byte}
 use Rattle.dearest.proofs.Writing.{claims-fit}
 use Rattle.dearest.proofs.dearest_list.Statement.{statement}
 use Rattle.dearest.proofs.dearest_list.Tie as tie
@@ -88,5 +88,5 @@ dearest-list-spec =
     -- the figure
     (λ c κs. search needs)
     (λ c. let t = c .before .before .before .before .before .before in
-    omega (arith, c .height-of .ensures, t .tried-of .ensures, figure-few _ (setup-accepted (t .before))))
+    omega (arith, c .height-of .ensures, t .tried-of .ensures, figure-byte _ (setup-accepted (t .before))))
     (λ c. search needs) returns-2)

@@ -1,5 +1,5 @@
 -- `list_answer` meets its contract: the setup's number, or past it the buffer's. Assumes nothing.
-use Rattle.machine.proofs.Rules.{_≡_, _∙_, sym, needs, le-leb, lt-leb}
+use Rattle.machine.proofs.Rules.{_≡_, _∙_, sym, arith, needs, le-leb, lt-leb}
 use Rattle.machine.specs.Setup.{setupAnswer}
 use Rattle.dearest_claim.proofs.Call.{answer-setup, answer-buffer}
 use Rattle.dearest.proofs.list_answer.Statement.{statement}
@@ -17,5 +17,5 @@ list-answer-spec =
     (λ c κs. search needs)
     (λ c. let a = c .before .setup-answer .ensures in a ∙ sym (answer-setup _ _ (λ e. c .if1 .taken (a ∙ e))))
     -- a small buffer, and one that is large enough
-    (λ c. sym (answer-buffer _ _ (kept (c .before)) ∙ rw (lt-leb 4096 _ (c .if2 .taken))))
-    (λ c. sym (answer-buffer _ _ (kept (c .before)) ∙ rw (le-leb 4096 _ (c .if2 .left)))))
+    (λ c. sym (answer-buffer _ _ (kept (c .before)) ∙ rw (lt-leb 4096 (c .before .before .before .args .room) (omega (arith, c .if2 .taken)))))
+    (λ c. sym (answer-buffer _ _ (kept (c .before)) ∙ rw (le-leb 4096 (c .before .before .before .args .room) (omega (arith, c .if2 .left))))))
