@@ -77,6 +77,16 @@ pub struct Written {
     pub size: usize,
 }
 
+/// What the call of the dearest list answers, its figure, and how many bytes
+/// it wrote.
+#[repr(C)]
+#[derive(Clone, Copy, PartialEq, Eq, Debug)]
+pub struct DearestList {
+    pub answer: u8,
+    pub figure: u8,
+    pub size: usize,
+}
+
 /// A part of a lent file.
 #[repr(C)]
 #[derive(Clone, Copy, PartialEq, Eq, Debug)]
@@ -99,13 +109,15 @@ const _: () = {
     assert!(size_of::<Report>() == 3);
     assert!(size_of::<Written>() == 16);
     assert!(offset_of!(Written, size) == 8);
+    assert!(size_of::<DearestList>() == 16);
+    assert!(offset_of!(DearestList, size) == 8);
     assert!(size_of::<Part>() == 16);
 };
 
 const _: () = assert!(size_of::<Status>() == 3);
 
 mod calls {
-    use super::{Done, Part, Report, State, Written};
+    use super::{DearestList, Done, Part, Report, State, Written};
 
     extern "C" {
         pub fn zevgorim_setup(n: u32, l: u32, g: u32, b: u32) -> Done;
@@ -127,6 +139,14 @@ mod calls {
             records: *mut super::Status,
             records_len: usize,
         ) -> u8;
+        pub fn zevgorim_dearest_list(
+            n: u32,
+            l: u32,
+            g: u32,
+            b: u32,
+            out: *mut u8,
+            out_len: usize,
+        ) -> DearestList;
         pub fn zevgorim_file_answer(file: *const u8, file_len: usize) -> u8;
         pub fn zevgorim_read_setup(file: *const u8, file_len: usize) -> Done;
         pub fn zevgorim_read_events(file: *const u8, file_len: usize) -> Part;
@@ -215,6 +235,12 @@ pub fn gate_report(state: State) -> Report {
 #[inline]
 pub fn fill_status(state: State, records: &mut [Status]) -> u8 {
     unsafe { calls::zevgorim_fill_status(state, records.as_mut_ptr(), records.len()) }
+}
+
+#[inline]
+pub fn dearest_list([n, l, g, b]: [u32; 4], out: &mut [u8]) -> DearestList {
+    let (to, to_len) = (out.as_mut_ptr(), out.len());
+    unsafe { calls::zevgorim_dearest_list(n, l, g, b, to, to_len) }
 }
 
 #[inline]

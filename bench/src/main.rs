@@ -3,6 +3,7 @@
 
 mod archive;
 mod count;
+mod dearest;
 mod differ;
 mod lists;
 mod setups;

@@ -9,6 +9,7 @@ use std::time::{Duration, Instant};
 use simulator::day_file::lay_out;
 
 use crate::archive;
+use crate::dearest;
 use crate::lists::{fresh, Kind, Setup, KINDS, MOST_EVENTS};
 use crate::setups;
 
@@ -365,5 +366,6 @@ pub fn print() -> io::Result<()> {
     print_lists();
     print_events();
     setups::print();
+    dearest::print();
     print_file()
 }

@@ -27,7 +27,7 @@ fn large(rng: &mut Random) -> u32 {
 }
 
 /// The numbers of a setup, one or more of them now above 255.
-fn enlarged(rng: &mut Random, setup: Setup) -> [u32; 4] {
+pub fn enlarged(rng: &mut Random, setup: Setup) -> [u32; 4] {
     let mut numbers = setup.map(u32::from);
     numbers[rng.below(4)] = large(rng);
     if rng.chance(1, 4) {
@@ -38,7 +38,7 @@ fn enlarged(rng: &mut Random, setup: Setup) -> [u32; 4] {
 
 /// The number of a setup's first check that fails; 0 where none of the first
 /// four does.
-fn setup_answer([n, l, g, b]: [u32; 4]) -> u8 {
+pub fn setup_answer([n, l, g, b]: [u32; 4]) -> u8 {
     let holds = [
         (1..=64).contains(&n),
         [1, 2, 4, 8, 16].contains(&l),

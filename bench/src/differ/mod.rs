@@ -1,6 +1,7 @@
 //! Compares the archive's calls with the simulator's.
 
 mod counts;
+mod dearest;
 mod difference;
 mod files;
 mod large;
@@ -45,6 +46,7 @@ fn compare(seed: u64, events: u64) -> Result<Tally, Difference> {
         differ.file(&case.file)?;
     }
     differ.long_writes()?;
+    differ.dearest_lists()?;
     for shape in shapes.into_iter().cycle() {
         if differ.tally.list_events >= events {
             break;
@@ -92,6 +94,7 @@ impl Differ {
             self.files(setup, &events)?;
         }
         self.writes(setup, &events)?;
+        self.dearest_calls(setup)?;
         for _ in 0..4 {
             self.partial_setup(setup)?;
         }

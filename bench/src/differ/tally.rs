@@ -6,6 +6,8 @@ use std::fmt;
 const EVENT_ANSWERS: [usize; 7] = [0, 6, 7, 8, 9, 12, 15];
 /// What writing a day file can answer.
 const WRITE_ANSWERS: [usize; 9] = [0, 1, 2, 3, 4, 5, 14, 16, 17];
+/// What the call of the dearest list can answer.
+const DEAREST_ANSWERS: [usize; 7] = [0, 1, 2, 3, 4, 5, 18];
 
 #[derive(Default)]
 pub struct Tally {
@@ -43,6 +45,11 @@ pub struct Tally {
     pub write_answers: [u64; 18],
     pub large_writes: u64,
     pub written_back: u64,
+    pub dearest: u64,
+    pub refused_dearest: u64,
+    /// Calls of the dearest list by their answer.
+    pub dearest_answers: [u64; 19],
+    pub large_dearest: u64,
 }
 
 /// What was compared, how often, and how often a part of it.
@@ -82,8 +89,22 @@ impl Tally {
         }
     }
 
+    /// Adds a call of the dearest list.
+    pub fn add_dearest(&mut self, answer: u8) {
+        self.dearest += 1;
+        self.refused_dearest += u64::from(answer != 0);
+        if let Some(count) = self.dearest_answers.get_mut(usize::from(answer)) {
+            *count += 1;
+        }
+    }
+
+    /// Events that were refused so far.
+    pub fn refused_events(&self) -> u64 {
+        self.answers[1..].iter().sum()
+    }
+
     /// Every kind of comparison.
-    fn lines(&self) -> [Line; 21] {
+    fn lines(&self) -> [Line; 23] {
         let refused = |count| Some(("refused", count));
         let [request, step, release] = self.kinds;
         [
@@ -128,6 +149,12 @@ impl Tally {
             ),
             ("writes with a number above 255", self.large_writes, None),
             ("day files written back", self.written_back, None),
+            ("dearest lists", self.dearest, refused(self.refused_dearest)),
+            (
+                "dearest lists with a number above 255",
+                self.large_dearest,
+                None,
+            ),
         ]
     }
 
@@ -151,6 +178,11 @@ impl Tally {
                 missing.push(format!("writes answered {answer}"));
             }
         }
+        for answer in DEAREST_ANSWERS {
+            if self.dearest_answers[answer] == 0 {
+                missing.push(format!("dearest lists answered {answer}"));
+            }
+        }
         missing
     }
 }
@@ -166,6 +198,8 @@ impl fmt::Display for Tally {
         }
         writeln!(out, "answers to events: {}", given(&self.answers))?;
         writeln!(out, "answers to writes: {}", given(&self.write_answers))?;
+        let dearest = given(&self.dearest_answers);
+        writeln!(out, "answers to dearest lists: {dearest}")?;
         for what in self.missing() {
             writeln!(out, "not compared: {what}")?;
         }
