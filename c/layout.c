@@ -270,7 +270,8 @@ static void check_write(void) {
 /* the dearest list of a setup, and of nothing less than its buffer; then each refusal */
 static void check_dearest(void) {
     static const uint8_t list[] = {0, 0, 1, 0, 1, 0, 1, 0, 0, 1, 1, 1, 1, 1, 1, 1, 1, 1};
-    static const uint32_t bad[][4] = {{0, 3, 9, 9}, {256 + 2, 2, 2, 1}, {2, 3, 9, 9}, {2, 2, 256 + 2, 1}, {2, 2, 2, UINT32_MAX}, {2, 16, 8, 8}};
+    static const uint32_t bad[][4] = {{0, 3, 9, 9},       {256 + 2, 2, 2, 1},    {2, 3, 9, 9},
+                                      {2, 2, 256 + 2, 1}, {2, 2, 2, UINT32_MAX}, {2, 16, 8, 8}};
     static const uint8_t numbers[] = {1, 1, 2, 3, 4, 5};
     static uint8_t out[4096], lent[4096];
     memset(lent, 170, sizeof lent);

@@ -235,8 +235,8 @@ uint8_t zevgorim_fill_status(zevgorim_state state, zevgorim_status *records, siz
 /* The dearest claim of a setup, for planning */
 
 /* Writes a list of events, two bytes each, in which one process's claim costs the most steps possible, at the start of a lent buffer, and
- * says that figure and how many bytes it wrote. No list from the setup's fresh state makes a claim cost more; zevgorim_run on that state and
- * this list, of which no event is refused, leaves a process in stage 4 whose steps are the figure. Bytes past the list are untouched.
+ * says that figure and how many bytes it wrote. No list from the setup's fresh state makes a claim cost more; zevgorim_run on that state
+ * and this list, of which no event is refused, leaves a process in stage 4 whose steps are the figure. Bytes past the list are untouched.
  * Refused with 1 to 5 for the setup, then 18 when the buffer is under 4,096 bytes, however short the list is: nothing is written, and the
  * figure and the size are 0. */
 zevgorim_dearest zevgorim_dearest_list(uint32_t n, uint32_t l, uint32_t g, uint32_t b, uint8_t *out, size_t out_len);

@@ -1,6 +1,6 @@
 -- The list, written part by part: a run of stores that goes on where the last one ended is one run of stores, of a claim that has one step
 -- more, and of the claims of one process more. Assumes nothing.
-use mathlib.Core.List.{List, [], _∷_, _++_}
+use mathlib.Core.List.{List, [], _∷_}
 use Prim.Native.Nat.{ℕ, suc, _+_, _*_, _≤_}
 use native.Mathlib.Numerals.{add-one}
 use lib.ListN.{length, replicate, length-append, length-replicate, replicate-append-replicate}

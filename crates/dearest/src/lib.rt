@@ -13,7 +13,6 @@ ghost use lib.Seq.{sets};
 ghost use Rattle.machine.specs.Kind;
 ghost use Rattle.machine.specs.Lists.{eventOf, listBytes};
 ghost use Rattle.machine.specs.Setup.{height, setupAnswer};
-ghost use Rattle.dearest_claim.specs.Dearest;
 ghost use Rattle.dearest_claim.specs.Dearest.{tried, claims, dear, dearestAnswer, dearestList, dearestBuffer};
 
 // The bytes that the lent buffer must have.
@@ -62,7 +61,8 @@ fn put_event(out: &mut [u8], at: usize, kind: u8, p: u8)
 // Puts the claim of a process: its request, and so many steps.
 fn put_claim(out: &mut [u8], at: usize, p: u8, steps: u8)
     requires { ⌜ at + 2 * suc steps ≤ length (now out) ⌝ }
-    ensures { λ r. ⌜ now (out .exit) ≡ sets (now (out .entry)) at (listBytes (eventOf Kind.request p ∷ replicate steps (eventOf Kind.step p))) ⌝ }
+    ensures { λ r. ⌜ now (out .exit)
+        ≡ sets (now (out .entry)) at (listBytes (eventOf Kind.request p ∷ replicate steps (eventOf Kind.step p))) ⌝ }
 {
     put_event(&mut *out, at, kind::REQUEST, p);
     let mut i: u8 = 0;

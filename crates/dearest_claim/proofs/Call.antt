@@ -37,24 +37,27 @@ module _ (c : Setup) (lent : List ℕ) where
   abbrev bytes : List ℕ
   bytes = dearestBytes c
 
-  -- the call's answer, and what it gives and leaves
+  abbrev made : DearestList
+  made = dearestOf 0 (dearestFigure c) (length bytes)
+
+  -- what the call gives and leaves
   abbrev Gives : DearestList → List ℕ → Type 0
   Gives l out = (l ≡ dearestList c lent) × (out ≡ dearestBuffer c lent)
 
   pub list-answer : dearestList c lent .answer ≡ dearestAnswer c room
   unfolding dearestList dearestAnswer
-  list-answer = read-of (λ (l : DearestList). l .answer) (dearestChecks c room) (λ a. dearestOf a 0 0) (dearestOf 0 (dearestFigure c) (length bytes))
+  list-answer = read-of (λ (l : DearestList). l .answer) (dearestChecks c room) (λ a. dearestOf a 0 0) made
 
   pub refused-list : dearestAnswer c room ≢ 0 → Gives (dearestOf (dearestAnswer c room) 0 0) lent
   unfolding dearestList dearestBuffer dearestAnswer
   refused-list d = (
-    sym (refused-with (dearestChecks c room) (λ a. dearestOf a 0 0) (dearestOf 0 (dearestFigure c) (length bytes)) d),
+    sym (refused-with (dearestChecks c room) (λ a. dearestOf a 0 0) made d),
     sym (refused-with (dearestChecks c room) (λ a. lent) (bytes ++ drop (length bytes) lent) d),
   )
 
-  pub accepted-list : dearestAnswer c room ≡ 0 → Gives (dearestOf 0 (dearestFigure c) (length bytes)) (bytes ++ drop (length bytes) lent)
+  pub accepted-list : dearestAnswer c room ≡ 0 → Gives made (bytes ++ drop (length bytes) lent)
   unfolding dearestList dearestBuffer dearestAnswer
   accepted-list e = (
-    sym (accepted-with (dearestChecks c room) (λ a. dearestOf a 0 0) (dearestOf 0 (dearestFigure c) (length bytes)) refl e),
+    sym (accepted-with (dearestChecks c room) (λ a. dearestOf a 0 0) made refl e),
     sym (accepted-with (dearestChecks c room) (λ a. lent) (bytes ++ drop (length bytes) lent) refl e),
   )

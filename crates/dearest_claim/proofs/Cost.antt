@@ -3,7 +3,7 @@
 use Prim.Native.Nat.{ℕ, _+_, _*_, _-_, _/_, _≤_, _<_, min}
 use native.Mathlib.Decide.{decLt}
 use native.Mathlib.Nat.{div-lt-iff-lt-mul}
-use Rattle.machine.proofs.Rules.{_≡_, arith}
+use Rattle.machine.proofs.Rules.{arith}
 use Rattle.machine.specs.Setup.{height}
 use Rattle.machine.specs.declared.Setup.{Setup}
 use Rattle.renaming_claim.proofs.Invariant.{CostAt}

@@ -4,7 +4,7 @@
 --     steps-few        the steps of a claim
 --     claims-length    the events of the first n claims
 -- Assumes nothing.
-use Prim.Native.Nat.{ℕ, zero, suc, _+_, _*_, _-_, _/_, _≤_, _<_}
+use Prim.Native.Nat.{ℕ, zero, suc, _*_, _-_, _/_, _≤_, _<_}
 use native.Mathlib.Nat.{div-add-mod', div-lt-iff-lt-mul, mul-le-mul-right}
 use lib.ListN.{length, length-append, length-replicate}
 use Rattle.machine.proofs.Rules.{_≡_, arith}

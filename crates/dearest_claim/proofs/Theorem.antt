@@ -1,9 +1,8 @@
 -- The dearest claim of every accepted setup: no list makes a claim cost more than the figure, by the invariant with M the number of
 -- processes; and the list's run ends with the dear process, which holds a name for just that. Assumes nothing.
 use mathlib.Core.List.{List}
-use Prim.Native.Nat.{ℕ, suc, _+_, _*_, _-_, _/_, _≤_, _<_}
+use Prim.Native.Nat.{ℕ, suc, _-_, _≤_, _<_}
 use native.Mathlib.Nat.{mul-div-cancel}
-use lib.ListN.{length}
 use Rattle.machine.proofs.Rules.{_≡_, _∙_, ap, arith}
 use Rattle.machine.specs.Lists.{Event, after}
 use Rattle.machine.specs.Setup.{setupAnswer}

@@ -17,17 +17,14 @@ pub record Computed : Type 0 where
   pub just-full : dearestFigure (plain 4 1 8 2) ≡ 2
   -- the longest list: 57 processes claim, the last in segment 7
   pub longest : length (dearestBytes (plain 64 1 8 8)) ≡ 692
-  -- Processes 0 and 1: 1 finds segment 0 full, and its claim costs 3.
-  pub bytes : dearestBytes (plain 2 2 2 1)
-      ≡ request 0 ++ step 0 ++ step 0 ++ step 0
-      ++ request 1 ++ step 1 ++ step 1 ++ step 1 ++ step 1
-  pub run : journal (fresh (plain 2 2 2 1)) (dearestEvents (plain 2 2 2 1))
+  -- Two levels, two segments of one bit: process 1 finds segment 0 full, and its claim costs 4.
+  pub bytes : dearestBytes (plain 2 4 2 1)
+      ≡ request 0 ++ step 0 ++ step 0 ++ step 0 ++ step 0
+      ++ request 1 ++ step 1 ++ step 1 ++ step 1 ++ step 1 ++ step 1
+  pub run : journal (fresh (plain 2 4 2 1)) (dearestEvents (plain 2 4 2 1))
       ≡ line 0 entry none 0
-      ++ line 0 getname none 0
-      ++ line 0 getname none 1
-      ++ line 0 working 0 2
+      ++ line 0 getname none 0 ++ line 0 getname none 1 ++ line 0 getname none 2
+      ++ line 0 working 0 3
       ++ line 0 entry none 0
-      ++ line 0 getname none 0
-      ++ line 0 getname none 1
-      ++ line 0 getname none 2
-      ++ line 0 working 1 3
+      ++ line 0 getname none 0 ++ line 0 getname none 1 ++ line 0 getname none 2 ++ line 0 getname none 3
+      ++ line 0 working 1 4

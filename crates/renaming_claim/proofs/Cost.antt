@@ -21,7 +21,8 @@ module _ {M : ℕ} {s : State} {p : ℕ} (m : Mover M s p) (st : processAt s p .
   abbrev h : Process
   h = processAt s p
 
-  claiming : Claiming c h
+  -- what its numbers say of each other
+  pub claiming : Claiming c h
   claiming = by-stage m getname st
 
   -- a step above the leaves is one of h

@@ -15,8 +15,10 @@ use Rattle.machine.specs.declared.Done.{Done}
 use Rattle.machine.specs.declared.Setup.{Setup}
 use Rattle.machine.specs.declared.State.{State}
 use Rattle.machine.proofs.Runs.{machine}
+use Rattle.dearest_claim.specs.Dearest.{dearestList, dearestBuffer}
 use Rattle.whole_list.specs.Calls.{SetUp, PartlySetUp, by-event, by-request, by-step, by-release}
 use Rattle.whole_list.specs.Calls.{ListCall, resultsOf, Calls, none, call, list, refused-list}
+use Rattle.whole_list.specs.Dearest.{Wrote}
 
 pub chain-of : (s : State) (es : List Event) → Calls s es (resultsOf s es) (after s es)
 unfolding resultsOf after
@@ -79,6 +81,10 @@ set-up = refl
 -- the second form gives what it should, whatever the setup and the count
 pub partly-set-up : (c : Setup) (count : ℕ) → PartlySetUp c count (partialSetup c count)
 partly-set-up c count = refl
+
+-- and so does the call of the dearest list, whatever the setup and the buffer
+pub dearest-wrote : (κs : Lfts 1) (c : Setup) (out : List ℕ) → Wrote κs c (lent out) (dearestList c out) (lent (dearestBuffer c out))
+dearest-wrote κs c out = (refl, refl)
 
 pub mixed : Lfts 2 → Calls (start .state)
     (eventOf 0 0 ∷ eventOf 2 0 ∷ eventOf 1 0 ∷ eventOf 1 0 ∷ eventOf 2 0 ∷ eventOf 1 0 ∷ [])

@@ -25,11 +25,12 @@ use Rattle.dearest_claim.specs.Theorem as spec
 use Rattle.dearest_claim.proofs.Call.{answer-setup, answer-buffer, passed-setup, list-answer, refused-list, accepted-list}
 use Rattle.dearest_claim.proofs.Theorem as machine
 use Rattle.whole_list.specs.Calls.{SetUp, ListCall, Calls}
-use Rattle.whole_list.specs.Dearest.{Wrote, Holder, Dearest, EveryDearestList}
+use Rattle.whole_list.specs.Dearest.{Wrote, Holder, Produced, EveryDearestList}
 use Rattle.whole_list.proofs.Accepted.{run-carried-out}
 use Rattle.whole_list.proofs.Chain.{end-is}
 
-module _ (κs : Lfts 1) (c : Setup) (d : Done) (out out′ : RefT (List ℕ)) (l : DearestList) (set : SetUp c d) (wrote : Wrote κs c out l out′) where
+module _ (κs : Lfts 1) (c : Setup) (d : Done) (out out′ : RefT (List ℕ)) (l : DearestList) (set : SetUp c d)
+    (wrote : Wrote κs c out l out′) where
   abbrev lent : List ℕ
   lent = now out
 
@@ -91,7 +92,8 @@ module _ (κs : Lfts 1) (c : Setup) (d : Done) (out out′ : RefT (List ℕ)) (l
     list-is : take (l .size) (now out′) ≡ dearestBytes c
     list-is = rw (size-is, stored) (take-at (dearestBytes c) (drop (length (dearestBytes c)) lent) (length (dearestBytes c)) refl)
 
-    shows : (r : Done) (run : ListCall (d .state) r) → now (run .bytes) ≡ take (l .size) (now out′) → 2 * l .size ≤ length (now (run .journal))
+    shows : (r : Done) (run : ListCall (d .state) r) → now (run .bytes) ≡ take (l .size) (now out′)
+        → 2 * l .size ≤ length (now (run .journal))
         → (r .answer ≡ 0) × Holder c (r .state) (l .figure)
     shows r run bytes journal =
         let es : List Event = dearestEvents c in
@@ -120,7 +122,7 @@ module _ (κs : Lfts 1) (c : Setup) (d : Done) (out out′ : RefT (List ℕ)) (l
       rw (size-is a, stored a) (drop-at (dearestBytes c) (drop (length (dearestBytes c)) lent) (length (dearestBytes c)) refl)
   rest (no r) = ap (drop (l .size)) (refused refl (λ z. r (answer-is ∙ z)) .1)
 
-  holds : Dearest c d (now out) l (now out′)
+  holds : Produced c d (now out) l (now out′)
   holds =
       record {
         accepted = λ a k. answer-is ∙ answer-buffer c room (sym setup-is ∙ a) ∙ rw (le-leb 4096 room (omega (arith, k)));

@@ -1,4 +1,4 @@
--- The proofs: each chain of calls is the machine's run; beside the setup its second form is what the machine's is, and the dearest list too.
+-- The proofs: each chain of calls is the machine's run, and the setup's second form and the dearest list are what the machine's are.
 pub mod Accepted
 pub mod Results
 pub mod Chain

@@ -30,7 +30,7 @@ pub record Holder (c : Setup) (s : State) (figure : ℕ) : Type 0 where
   pub costs : processAt s process .steps ≡ figure
 
 -- `setup(c)` gave d, and `dearest_list(c, out)` gave l and left the lent bytes as out′.
-pub record Dearest (c : Setup) (d : Done) (out : List ℕ) (l : DearestList) (out′ : List ℕ) : Type 0 where
+pub record Produced (c : Setup) (d : Done) (out : List ℕ) (l : DearestList) (out′ : List ℕ) : Type 0 where
   -- For an accepted setup, produce such a list in a lent buffer,
   pub accepted : d .answer ≡ 0 → 4096 ≤ length out → l .answer ≡ 0
   -- with its figure. That figure is h plus the smaller of g and 1 + (N - 1) div b.
@@ -54,4 +54,4 @@ pub record Dearest (c : Setup) (d : Done) (out : List ℕ) (l : DearestList) (ou
 abbrev pub EveryDearestList : Type 0
 EveryDearestList =
     (κs : Lfts 1) (c : Setup) (d : Done) (out out′ : RefT (List ℕ)) (l : DearestList)
-    → SetUp c d → Wrote κs c out l out′ → Dearest c d (now out) l (now out′)
+    → SetUp c d → Wrote κs c out l out′ → Produced c d (now out) l (now out′)

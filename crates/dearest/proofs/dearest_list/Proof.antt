@@ -1,6 +1,5 @@
 -- `dearest_list` meets its contract: refused by its checks and nothing written, or the figure and the claims up to the dear process's.
 -- Assumes nothing.
-use mathlib.Core.List.{List}
 use Prim.Native.Nat.{ℕ, suc, _+_, _*_, _-_, _≤_}
 use native.Mathlib.Numerals.{add-one}
 use lib.ListN.{length}

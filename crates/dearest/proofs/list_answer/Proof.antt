@@ -17,5 +17,7 @@ list-answer-spec =
     (λ c κs. search needs)
     (λ c. let a = c .before .setup-answer .ensures in a ∙ sym (answer-setup _ _ (λ e. c .if1 .taken (a ∙ e))))
     -- a small buffer, and one that is large enough
-    (λ c. sym (answer-buffer _ _ (kept (c .before)) ∙ rw (lt-leb 4096 (c .before .before .before .args .room) (omega (arith, c .if2 .taken)))))
-    (λ c. sym (answer-buffer _ _ (kept (c .before)) ∙ rw (le-leb 4096 (c .before .before .before .args .room) (omega (arith, c .if2 .left))))))
+    (λ c. let room = c .before .before .before .args .room in
+    sym (answer-buffer _ _ (kept (c .before)) ∙ rw (lt-leb 4096 room (omega (arith, c .if2 .taken)))))
+    (λ c. let room = c .before .before .before .args .room in
+    sym (answer-buffer _ _ (kept (c .before)) ∙ rw (le-leb 4096 room (omega (arith, c .if2 .left))))))

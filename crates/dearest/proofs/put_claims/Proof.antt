@@ -1,9 +1,9 @@
 -- `put_claims` meets its contract: with each turn of the loop there are the claims of one process more. Assumes nothing.
 use mathlib.Core.List.{List, _∷_}
-use Prim.Native.Nat.{ℕ, suc, _+_, _*_, _-_, _/_, _≤_, _<_}
+use Prim.Native.Nat.{ℕ, _+_, _*_, _-_, _/_, _≤_, _<_}
 use lib.ListN.{length, replicate}
 use lib.Seq.{sets, length-sets}
-use Rattle.machine.proofs.Rules.{_≡_, _∙_, sym, ap, refl, arith, needs}
+use Rattle.machine.proofs.Rules.{_≡_, _∙_, ap, refl, arith, needs}
 use Rattle.machine.specs.Kind.{request, step}
 use Rattle.machine.specs.Lists.{eventOf, listBytes}
 use Rattle.machine.specs.declared.Setup.{Setup}

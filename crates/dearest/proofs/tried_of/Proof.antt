@@ -1,5 +1,5 @@
 -- `tried_of` meets its contract: the smaller of two numbers, of a setup that has a process and a bit. Assumes nothing.
-use Rattle.machine.proofs.Rules.{arith, needs}
+use Rattle.machine.proofs.Rules.{needs}
 use Rattle.machine.proofs.Ranges.{limits-of}
 use Rattle.dearest.proofs.tried_of.Statement.{statement}
 use Rattle.dearest.proofs.tried_of.Tie as tie

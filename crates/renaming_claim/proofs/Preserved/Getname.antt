@@ -21,11 +21,11 @@ use Rattle.renaming_claim.proofs.Bits.{Filled, bits-same, bits-win}
 use Rattle.renaming_claim.proofs.Bounds.{stays-put}
 use Rattle.renaming_claim.proofs.Bounds.Levels.{bounds-left, bounds-right}
 use Rattle.renaming_claim.proofs.Bounds.Segments.{low-name, not-last, bounds-next}
-use Rattle.renaming_claim.proofs.Cost.{one-more}
+use Rattle.renaming_claim.proofs.Cost.{claiming, one-more}
 use Rattle.renaming_claim.proofs.Facts.Tree.{leaf-level}
 use Rattle.renaming_claim.proofs.Gate.{gate-past}
-use Rattle.renaming_claim.proofs.Invariant.{isOpen, words, Claiming, Bounds, Invariant}
-use Rattle.renaming_claim.proofs.Mover.{Setup, Process, State, processAt, Mover, by-stage, own-range}
+use Rattle.renaming_claim.proofs.Invariant.{isOpen, words, Bounds, Invariant}
+use Rattle.renaming_claim.proofs.Mover.{Setup, Process, State, processAt, Mover, own-range}
 use Rattle.renaming_claim.proofs.Mover.{limits, leaves-16, stored, shapes-set, shapes-nameless}
 
 decrement-is : (n : ℕ) → boundedDecrement n .word ≡ n - 1
@@ -38,9 +38,6 @@ module _ {M : ℕ} {s : State} {p : ℕ} (m : Mover M s p) (st : processAt s p .
 
   abbrev h : Process
   h = processAt s p
-
-  claiming : Claiming c h
-  claiming = by-stage m getname st
 
   module _ (below : h .node < c .leaves) where
     abbrev v : ℕ
@@ -58,12 +55,12 @@ module _ {M : ℕ} {s : State} {p : ℕ} (m : Mover M s p) (st : processAt s p .
     lower-keeps u level bounds =
         let x : Process = claimed (Left u) h in
         record {
-          shapes = shapes-nameless m x getname st (claiming .nameless) (one-more m st)
+          shapes = shapes-nameless m x getname st (claiming m st .nameless) (one-more m st)
               (record {
-                nameless = claiming .nameless;
-                flat = λ _. claiming .flat below;
-                steps = omega (arith, claiming .steps);
-                returns = claiming .returns;
+                nameless = claiming m st .nameless;
+                flat = λ _. claiming m st .flat below;
+                steps = omega (arith, claiming m st .steps);
+                returns = claiming m st .returns;
               });
           gate = gate-past m x (omega arith) (omega arith);
           bits = bits-same m x refl;
@@ -74,14 +71,15 @@ module _ {M : ℕ} {s : State} {p : ℕ} (m : Mover M s p) (st : processAt s p .
     left-keeps some =
         lower-keeps (2 * v) (depth-left v (own-range m .node1) (omega (arith, leaves-16 m)))
         (rw (decrement-is (counterAt s v))
-        (bounds-left m (claimed (Left (2 * v)) h) (omega arith) (omega arith) below (claiming .flat below) refl some))
+        (bounds-left m (claimed (Left (2 * v)) h) (omega arith) (omega arith) below (claiming m st .flat below) refl some))
 
     right-keeps : counterAt s v ≡ 0 → Invariant M (lower (2 * v + 1))
     right-keeps empty =
         let unchanged : set (s .counters) v counter ≡ s .counters
         = ap (λ (n : ℕ). set (s .counters) v n) (decrement-is (counterAt s v) ∙ omega arith) ∙ set-getD (s .counters) v 0 in
         lower-keeps (2 * v + 1) (depth-right v (own-range m .node1) (omega (arith, leaves-16 m)))
-        (rw unchanged (bounds-right m (claimed (Left (2 * v + 1)) h) (omega arith) (omega arith) below (claiming .flat below) refl empty))
+        (rw unchanged
+        (bounds-right m (claimed (Left (2 * v + 1)) h) (omega arith) (omega arith) below (claiming m st .flat below) refl empty))
 
     descend-keeps : Invariant M (descend s p)
     unfolding descend side
@@ -131,12 +129,12 @@ module _ {M : ℕ} {s : State} {p : ℕ} (m : Mover M s p) (st : processAt s p .
                 by =
                     record {
                       named = λ e. omega (arith, limits m .k64, digits-lt r-used k);
-                      steps = omega (arith, claiming .steps, level);
-                      returns = claiming .returns;
+                      steps = omega (arith, claiming m st .steps, level);
+                      returns = claiming m st .returns;
                     };
               });
           gate = gate-past m x (omega arith) (omega arith);
-          bits = rw word (bits-win m r-used k x (claiming .nameless) refl (first-zero-clear (c .bits) w k));
+          bits = rw word (bits-win m r-used k x (claiming m st .nameless) refl (first-zero-clear (c .bits) w k));
           bounds = stays-put m x (omega arith) (omega arith) refl refl;
         }
 
@@ -151,12 +149,12 @@ module _ {M : ℕ} {s : State} {p : ℕ} (m : Mover M s p) (st : processAt s p .
           let unchanged : set (s .words) r (setFirstZero (c .bits) w .word) ≡ s .words
           = ap (λ (n : ℕ). set (s .words) r n) word ∙ set-getD (s .words) r 0 in
           record {
-            shapes = shapes-nameless m x getname st (claiming .nameless) (one-more m st)
+            shapes = shapes-nameless m x getname st (claiming m st .nameless) (one-more m st)
                 (record {
-                  nameless = claiming .nameless;
+                  nameless = claiming m st .nameless;
                   flat = λ l. absurd (omega arith);
-                  steps = omega (arith, claiming .steps);
-                  returns = claiming .returns;
+                  steps = omega (arith, claiming m st .steps);
+                  returns = claiming m st .returns;
                 });
             gate = gate-past m x (omega arith) (omega arith);
             bits = rw unchanged (bits-same m x refl);
