@@ -1,5 +1,5 @@
--- A request from the remainder section is accepted, and so is the step past an open gate; what each makes of its process's own record. By the
--- checks that an event passes. Assumes nothing.
+-- A request from the remainder section is accepted, and so is the step past an open gate; what each makes of its process's own record.
+-- By the checks that an event passes. Assumes nothing.
 use Prim.Native.Nat.{ℕ}
 use Rattle.machine.proofs.Rules.{_≡_, _∙_, ap, true, lt-ltb}
 use Rattle.machine.specs.Event.{event, guarded}

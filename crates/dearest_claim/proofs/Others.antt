@@ -46,6 +46,7 @@ pub record HoldsAt (y stage name : ℕ) : Type 0 where
   pub own : name ≡ y
 
 module _ (c : Setup) (n : ℕ) where
+  -- the invariant holds with every M above n; and where those before n and those behind it are
   pub record Others (s : State) : Type 0 where
     pub sound : (M : ℕ) → n < M → Sound M s
     pub setup : s .setup ≡ c
