@@ -50,6 +50,12 @@ module _ (c : tie.After-tried-of) where
   small : count ≤ 64
   small = omega (arith, counted, dear-known _ (setup-accepted (c .before)), limits (c .before) .n64)
 
+-- no more claim than the dear process and those before it
+claims-requires : tie.Need-put-claims-requires
+claims-requires c κs =
+    let t = c .before .before in
+    (setup-accepted (t .before), omega (arith, counted t), passed-buffer _ _ (accepted (t .before)))
+
 returns-2 : tie.Need-returns-2
 returns-2 c =
     let put = c .before .before .before in
@@ -82,8 +88,7 @@ dearest-list-spec =
     (λ c. omega (arith, small (c .before .before)))
     (λ c. omega (arith, small (c .before .before)))
     -- the list
-    (λ c κs. let t = c .before .before in
-    (setup-accepted (t .before), omega (arith, counted t), passed-buffer _ _ (accepted (t .before))))
+    claims-requires
     -- the figure
     (λ c κs. search needs)
     (λ c. let t = c .before .before .before .before .before .before in

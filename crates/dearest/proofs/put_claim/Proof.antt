@@ -31,6 +31,10 @@ module _ (c : tie.At-loop Inv-loop μ-loop) where
       ∙ length-sets (put .put-event .last .0) (a .at + 2) (stepBytes (a .p) (c .loop .i))
       ∙ put .put-event .kept .0
 
+-- there is room for the step
+step-requires : tie.Need-put-event-requires-2 Inv-loop μ-loop
+step-requires c κs = let l = c .before in omega (arith, kept (l .before), start (l .before) .pre, l .loop-test .taken)
+
 loop-again : tie.Need-loop-again Inv-loop μ-loop
 loop-again c =
     let l = c .before .before .before .before in
@@ -61,7 +65,7 @@ put-claim-spec =
     (λ c. (omega arith, unfold listBytes in refl))
     -- a step
     (λ c. search needs) (λ c. search needs) (λ c. search needs) (λ c. search needs)
-    (λ c κs. let l = c .before in omega (arith, kept (l .before), start (l .before) .pre, l .loop-test .taken))
+    step-requires
     (λ c. search needs) (λ c. omega (arith, c .before .before .before .before .loop-test .taken)) loop-again
     -- after the loop
     (λ c. kept (c .before)) returns)
