@@ -37,3 +37,7 @@ pub const TOO_LONG: u8 = 16;
 pub const NO_ROOM: u8 = 17;
 /// Document 02, request d: the buffer is under 4,096 bytes.
 pub const SMALL_BUFFER: u8 = 18;
+/// Document 02, request e: a closed number is not below k.
+pub const CLOSED: u8 = 19;
+/// Document 02, request e: no name stays open.
+pub const NONE_OPEN: u8 = 20;

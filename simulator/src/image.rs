@@ -1,4 +1,5 @@
-//! The state image, one byte for each number, and its digest.
+//! The state image, one byte for each number but eight for the closed names,
+//! and its digest.
 
 use crate::state::{Process, State, COUNTERS, MAX};
 
@@ -6,9 +7,11 @@ use crate::state::{Process, State, COUNTERS, MAX};
 const PROCESS_BYTES: usize = 6;
 
 /// Length of a state image.
-pub const IMAGE_BYTES: usize = 6 + MAX + COUNTERS + MAX + PROCESS_BYTES * MAX;
+pub const IMAGE_BYTES: usize = QUEUE + MAX + COUNTERS + MAX + PROCESS_BYTES * MAX;
 
-const QUEUE: usize = 6;
+const CLOSED: usize = 4;
+const GATE: usize = CLOSED + 8;
+const QUEUE: usize = GATE + 2;
 const COUNTER: usize = QUEUE + MAX;
 const SEGMENT: usize = COUNTER + COUNTERS;
 const PROCESS: usize = SEGMENT + MAX;
@@ -16,13 +19,15 @@ const PROCESS: usize = SEGMENT + MAX;
 impl State {
     /// The state that an image describes, in range or not.
     pub fn from_image(image: &[u8; IMAGE_BYTES]) -> State {
+        let closed = std::array::from_fn(|place| image[CLOSED + place]);
         let mut state = State {
             n: image[0],
             l: image[1],
             g: image[2],
             b: image[3],
-            gate: image[4] as i8,
-            queue_len: image[5],
+            closed: u64::from_le_bytes(closed),
+            gate: image[GATE] as i8,
+            queue_len: image[GATE + 1],
             ..State::BLANK
         };
         state.queue.copy_from_slice(&image[QUEUE..COUNTER]);
@@ -48,15 +53,9 @@ impl State {
     /// The image of the state.
     pub fn to_image(&self) -> [u8; IMAGE_BYTES] {
         let mut image = [0; IMAGE_BYTES];
-        let head = [
-            self.n,
-            self.l,
-            self.g,
-            self.b,
-            self.gate as u8,
-            self.queue_len,
-        ];
-        image[..QUEUE].copy_from_slice(&head);
+        image[..CLOSED].copy_from_slice(&[self.n, self.l, self.g, self.b]);
+        image[CLOSED..GATE].copy_from_slice(&self.closed.to_le_bytes());
+        image[GATE..QUEUE].copy_from_slice(&[self.gate as u8, self.queue_len]);
         image[QUEUE..COUNTER].copy_from_slice(&self.queue);
         image[COUNTER..SEGMENT].copy_from_slice(&self.counters);
         image[SEGMENT..PROCESS].copy_from_slice(&self.segments);

@@ -3,7 +3,7 @@
 use crate::answer::{
     ACCEPTED, BROKEN_STATE, BUSY, KIND, NOT_MOVING, NO_NAME_HELD, ODD, SHORT, STRANGER,
 };
-use crate::operations::{bounded_decrement, clr_bit, set_first_zero};
+use crate::operations::{bounded_decrement, clr_bit, set_first_open_zero};
 use crate::state::{stage, Process, State, MAX, MOST_COST, NO_NAME};
 
 /// Kinds of event.
@@ -149,12 +149,15 @@ impl State {
         ACCEPTED
     }
 
-    /// Tries the process's segment of its leaf. A process that fails keeps
-    /// the name of its record, which is 255 unless the state is hand-made.
+    /// Tries the open bits of the process's segment. A process that fails
+    /// keeps the name of its record, which is 255 unless the state is
+    /// hand-made.
     fn probe_segment(&mut self, p: usize) {
+        let Process { node, segment, .. } = self.processes[p];
+        let r = (node - self.l) * self.g + segment;
+        let closed = self.closed_bits(r);
+        let m = set_first_open_zero(&mut self.segments[usize::from(r)], closed, self.b);
         let process = &mut self.processes[p];
-        let r = (process.node - self.l) * self.g + process.segment;
-        let m = set_first_zero(&mut self.segments[usize::from(r)], self.b);
         if m < self.b {
             process.name = r * self.b + m;
             process.stage = stage::WORKING;
@@ -209,9 +212,10 @@ impl State {
     }
 
     /// Lets the queue's head in and goes back to the remainder. The gate
-    /// does not count; the cost is kept.
+    /// rises up to the number of open names; it does not count, and the cost
+    /// is kept.
     fn leave_gate(&mut self, p: usize) -> u8 {
-        if self.gate >= self.names() as i8 {
+        if self.gate >= self.open_names() as i8 {
             return BROKEN_STATE;
         }
         let len = usize::from(self.queue_len);

@@ -4,7 +4,14 @@
 /// index, or answers `b` and leaves the word (document 01: first clear).
 #[inline]
 pub fn set_first_zero(word: &mut u8, b: u8) -> u8 {
-    let index = word.trailing_ones() as u8;
+    set_first_open_zero(word, 0, b)
+}
+
+/// The same among the bits that are not closed (document 02, request e). Bits
+/// of `closed` from `b` on do not matter.
+#[inline]
+pub fn set_first_open_zero(word: &mut u8, closed: u8, b: u8) -> u8 {
+    let index = (*word | closed).trailing_ones() as u8;
     if index >= b {
         return b;
     }

@@ -5,11 +5,16 @@
 //! that is long enough; the roll is filled from the state that it gives
 //! back, which is the lent one where the list is refused.
 
+use crate::calls::closed::random_closed;
+use crate::calls::closed_runs::{with_open, OPENINGS};
+use crate::calls::closed_states::{self, CLOSURES};
 use crate::calls::costs::{set_cost, LAST, PAST};
-use crate::calls::reached::{accepted_event, accepted_pair, busy_list, fresh, mid_run, SETUPS};
+use crate::calls::reached::{
+    accepted_event, accepted_pair, busy_list, closed, fresh, mid_run, mid_run_from, SETUPS,
+};
 use crate::calls::{broken, chance, ends, Records};
 use crate::cases::chance::setup;
-use crate::cases::shapes::lively_list;
+use crate::cases::shapes::lively_list_from;
 use crate::cases::ways_back;
 use crate::machine::kind::{RELEASE, REQUEST, STEP};
 use crate::random::Random;
@@ -73,13 +78,13 @@ fn fresh_states(records: &mut Records, rng: &mut Random) {
     for &setup in SETUPS.iter().chain(&CROWDED_SETUPS) {
         let state = fresh(setup);
         for room in rooms(state.n) {
-            records.roll(&state, &busy_list(rng, setup), room);
+            records.roll(&state, &busy_list(rng, &state), room);
         }
     }
     for setup in SETUPS {
         let mut state = fresh(setup);
         ends::fill_unused(&mut state, || rng.byte().max(1));
-        records.roll(&state, &busy_list(rng, setup), MOST_ROOM);
+        records.roll(&state, &busy_list(rng, &fresh(setup)), MOST_ROOM);
     }
     let state = fresh(CROWDED_SETUPS[0]);
     let longest = chance::events(rng, &state, MOST_EVENTS);
@@ -128,13 +133,15 @@ fn range_ends(records: &mut Records) {
     records.roll(&queued, &events, queued.n);
 }
 
+/// The first process, a middle one or the last by the turn, 0 to 2.
+fn third(good: &State, turn: usize) -> usize {
+    turn * (usize::from(good.n) - 1) / 2
+}
+
 /// One state of every kind of fault, each with enough room and with too
 /// little, with a list that the good state accepts and with none. The turn,
-/// 0 to 2, chooses the first, a middle or the last of each kind, and
-/// likewise of the processes.
-fn broken_states(records: &mut Records, good: &State, turn: usize) {
-    let process = turn * (usize::from(good.n) - 1) / 2;
-    let kinds = broken::kinds(good, process);
+/// 0 to 2, chooses the first, a middle or the last of each kind.
+fn broken_states(records: &mut Records, good: &State, kinds: &[Vec<State>], turn: usize) {
     for (index, kind) in kinds.iter().enumerate() {
         let chosen = turn * kind.len().saturating_sub(1) / 2;
         let Some(state) = kind.get(chosen) else {
@@ -243,6 +250,37 @@ pub(crate) fn mendable() -> Vec<(State, Vec<u8>)> {
     ]
 }
 
+/// Fresh states that close names, with lists that leave them busy, and states
+/// in mid-run.
+fn closed_states(records: &mut Records, rng: &mut Random, goods: &[State; 3]) {
+    let [first, second, _] = CLOSURES.map(|(setup, list)| closed(setup, list));
+    let last = with_open(OPENINGS[OPENINGS.len() - 1]);
+    for state in [first, second, last] {
+        for room in [state.n - 1, state.n, MOST_ROOM] {
+            records.roll(&state, &busy_list(rng, &state), room);
+        }
+    }
+    for (turn, good) in goods.iter().enumerate() {
+        mid_run_states(records, rng, good, turn);
+    }
+    unused_places(records, rng, &goods[1]);
+}
+
+/// States that closed names break, in every way.
+fn broken_closures(records: &mut Records, goods: &[State; 3]) {
+    for (turn, good) in goods.iter().enumerate() {
+        let kinds = broken::closed_kinds(good, third(good, turn));
+        broken_states(records, good, &kinds, turn);
+    }
+    for (turn, state) in closed_states::broken_alone().iter().enumerate() {
+        let events = [&[][..], &[REQUEST, 0]][turn % 2];
+        records.roll(state, events, state.n);
+    }
+    for (state, events) in closed_states::mendable() {
+        records.roll(&state, &events, state.n);
+    }
+}
+
 /// The records that come first.
 pub fn fixed(records: &mut Records, rng: &mut Random) {
     fresh_states(records, rng);
@@ -259,7 +297,8 @@ pub fn fixed(records: &mut Records, rng: &mut Random) {
     records.roll(&State::BLANK, &[], 0);
     records.roll(&State::BLANK, &[REQUEST, 0, STEP, 0], 5);
     for (turn, state) in main.iter().enumerate() {
-        broken_states(records, state, turn);
+        let kinds = broken::kinds(state, third(state, turn));
+        broken_states(records, state, &kinds, turn);
     }
     for state in [&main[0], &main[2]] {
         broken_costs(records, state);
@@ -271,6 +310,9 @@ pub fn fixed(records: &mut Records, rng: &mut Random) {
         highest_costs(records, rng, state);
     }
     ways_back(records, rng);
+    let goods = CLOSURES.map(|(setup, list)| mid_run_from(rng, closed(setup, list)));
+    closed_states(records, rng, &goods);
+    broken_closures(records, &goods);
 }
 
 /// Mostly N itself or a little more.
@@ -285,15 +327,21 @@ fn room(rng: &mut Random, n: u8) -> u8 {
     }
 }
 
-/// A fresh state with a lively list of any length.
+/// A fresh state, which may close names, with a lively list of any length.
 fn add_fresh(records: &mut Records, rng: &mut Random) {
     let setup = setup(rng);
+    let [_, l, g, b] = setup;
+    let state = if rng.chance(1, 2) {
+        closed(setup, &random_closed(rng, l * g * b))
+    } else {
+        fresh(setup)
+    };
     let count = 20 + rng.below(MOST_EVENTS - 19);
     let turn = rng.below(5);
-    let mut events = lively_list(rng, turn, setup, count);
+    let mut events = lively_list_from(rng, turn, state.clone(), count);
     events.truncate(2 * MOST_EVENTS);
-    let room = room(rng, setup[0]);
-    records.roll(&fresh(setup), &events, room);
+    let room = room(rng, state.n);
+    records.roll(&state, &events, room);
 }
 
 /// A state of any kind, perhaps broken; its list is mostly short.

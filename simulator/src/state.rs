@@ -89,6 +89,9 @@ pub struct State {
     pub g: u8,
     /// Bits in a segment, b.
     pub b: u8,
+    /// Closed names (document 02, request e): bit p is 1 where name p is
+    /// closed.
+    pub closed: u64,
     /// Gate word A.
     pub gate: i8,
     pub queue_len: u8,
@@ -120,6 +123,28 @@ pub fn check_setup(n: u8, l: u8, g: u8, b: u8) -> Result<u8, u8> {
     Ok(k as u8)
 }
 
+/// The set of all names below k, which is 1 to 64.
+#[inline]
+pub fn all_names(k: u8) -> u64 {
+    u64::MAX >> (64 - k)
+}
+
+/// The set of the names in a list, or the refusal's number. A name named
+/// twice is closed once.
+fn closed_set(k: u8, list: &[u8]) -> Result<u64, u8> {
+    let mut closed = 0;
+    for &name in list {
+        if name >= k {
+            return Err(answer::CLOSED);
+        }
+        closed |= 1 << name;
+    }
+    if closed == all_names(k) {
+        return Err(answer::NONE_OPEN);
+    }
+    Ok(closed)
+}
+
 impl State {
     /// The blank state, every number 0; every other call refuses it.
     pub const BLANK: State = State {
@@ -127,6 +152,7 @@ impl State {
         l: 0,
         g: 0,
         b: 0,
+        closed: 0,
         gate: 0,
         queue_len: 0,
         queue: [0; MAX],
@@ -135,29 +161,43 @@ impl State {
         processes: [Process::BLANK; MAX],
     };
 
-    /// The fresh state of a setup, or the refusal's number; a refused setup
-    /// stands for the blank state. No count stops it.
+    /// The fresh state of a setup that closes no name, or the refusal's
+    /// number; a refused setup stands for the blank state. No count stops it.
     pub fn setup(n: u8, l: u8, g: u8, b: u8) -> Result<State, u8> {
         State::partial_setup(n, l, g, b, u64::MAX)
     }
 
-    /// The setup's second form, which refuses as the setup does and stops
-    /// once `count` counters are filled: the others are 0, all else is fresh.
-    /// Segment words come first, then counters, then the rest.
+    /// The setup's second form, which closes no name, refuses as the setup
+    /// does and stops once `count` counters are filled: the others are 0, all
+    /// else is fresh.
     pub fn partial_setup(n: u8, l: u8, g: u8, b: u8, count: u64) -> Result<State, u8> {
+        check_setup(n, l, g, b)?;
+        Ok(State::filled([n, l, g, b], 0, count))
+    }
+
+    /// The setup with a list of closed names, one byte each, of any length.
+    pub fn closed_setup(n: u8, l: u8, g: u8, b: u8, closed: &[u8]) -> Result<State, u8> {
         let k = check_setup(n, l, g, b)?;
+        let closed = closed_set(k, closed)?;
+        Ok(State::filled([n, l, g, b], closed, u64::MAX))
+    }
+
+    /// The state of four numbers and closed names that are accepted. Segment
+    /// words come first, then at most `count` counters, then the rest.
+    fn filled([n, l, g, b]: [u8; 4], closed: u64, count: u64) -> State {
         let mut state = State {
             n,
             l,
             g,
             b,
+            closed,
             ..State::BLANK
         };
         state.fill_segments();
         state.fill_counters(count);
-        state.gate = k as i8;
+        state.gate = state.open_names() as i8;
         state.processes[..usize::from(n)].fill(Process::FRESH);
-        Ok(state)
+        state
     }
 
     /// Every segment word in use gets its fresh value.
@@ -184,11 +224,37 @@ impl State {
         self.l.wrapping_mul(self.g).wrapping_mul(self.b)
     }
 
-    /// Fresh value of node v's counter, k / 2^(d + 1); v is at least 1.
+    /// Number of names that are not closed. Right where none is closed from
+    /// k on.
+    #[inline]
+    pub fn open_names(&self) -> u8 {
+        self.names().wrapping_sub(self.closed.count_ones() as u8)
+    }
+
+    /// Whether the name, which is below 64, is closed.
+    #[inline]
+    pub fn is_closed(&self, name: u8) -> bool {
+        self.closed.wrapping_shr(u32::from(name)) & 1 == 1
+    }
+
+    /// The closed bits of segment r from bit 0 on; those from b on belong to
+    /// the segments after it. Right for segments in use.
+    #[inline]
+    pub fn closed_bits(&self, r: u8) -> u8 {
+        let first = u32::from(r.wrapping_mul(self.b));
+        self.closed.wrapping_shr(first) as u8
+    }
+
+    /// Fresh value of node v's counter and its upper limit: the open names
+    /// below its left child. Right for nodes with a counter.
     #[inline]
     pub fn fresh_counter(&self, v: usize) -> u8 {
         let depth = v.max(1).ilog2();
-        self.names().checked_shr(depth + 1).unwrap_or(0)
+        let width = u32::from(self.names()).wrapping_shr(depth);
+        let first = (v as u32 ^ 1 << depth).wrapping_mul(width);
+        let below = (1_u64.wrapping_shl(width / 2)).wrapping_sub(1);
+        let open = !self.closed.wrapping_shr(first) & below;
+        open.count_ones() as u8
     }
 
     /// Whether the process stands in the queue.

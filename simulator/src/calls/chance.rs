@@ -1,9 +1,10 @@
 //! Random states: every number at random within its range, or what follows
-//! a partial setup; one in six is broken at one place. Among the calls on
-//! them stand partial setups.
+//! a partial setup or one that closes names; one in six is broken at one
+//! place. Among the calls on them stand such setups.
 
+use super::closed::random_closed;
 use super::costs::set_cost;
-use super::{broken, ends, partial, partial_runs, Records};
+use super::{broken, closed, closed_runs, ends, partial, partial_runs, Records};
 use crate::cases::chance::setup;
 use crate::cases::schedule::natural_kind;
 use crate::random::Random;
@@ -22,12 +23,12 @@ fn fill_queue(rng: &mut Random, state: &mut State) {
 }
 
 fn fill_gate(rng: &mut Random, state: &mut State) {
-    let k = state.names() as i8;
+    let open = state.open_names();
     state.gate = match rng.below(6) {
         0 => -64,
-        1 => k,
+        1 => open as i8,
         2 => 0,
-        _ => (i16::from(rng.between(0, state.names() + 64)) - 64) as i8,
+        _ => (i16::from(rng.between(0, open + 64)) - 64) as i8,
     };
 }
 
@@ -40,12 +41,12 @@ fn fill_words(rng: &mut Random, state: &mut State) {
             _ => rng.between(0, highest),
         };
     }
-    let full = 0xFF >> (8 - state.b);
-    for r in 0..usize::from(state.l) * usize::from(state.g) {
-        state.segments[r] = if rng.chance(1, 3) {
-            full
+    for r in 0..state.l * state.g {
+        let open = (0xFF >> (8 - state.b)) & !state.closed_bits(r);
+        state.segments[usize::from(r)] = if rng.chance(1, 3) {
+            open
         } else {
-            rng.byte() & full
+            rng.byte() & open
         };
     }
 }
@@ -67,6 +68,13 @@ fn cost(rng: &mut Random) -> [u8; 2] {
     [steps, sum - steps]
 }
 
+/// Any open name.
+fn open_name(rng: &mut Random, state: &State) -> u8 {
+    let mut names = (0..state.names()).filter(|&name| !state.is_closed(name));
+    let place = rng.below(usize::from(state.open_names()));
+    names.nth(place).unwrap_or(NO_NAME)
+}
+
 fn process(rng: &mut Random, state: &State) -> Process {
     let [steps, returns] = cost(rng);
     Process {
@@ -76,14 +84,23 @@ fn process(rng: &mut Random, state: &State) -> Process {
         name: if rng.chance(1, 2) {
             NO_NAME
         } else {
-            rng.byte_below(state.names())
+            open_name(rng, state)
         },
         steps,
         returns,
     }
 }
 
-/// A state in range; unused places are 0 or anything.
+/// No closed names in half of the states, any in the others.
+fn closed_names(rng: &mut Random, k: u8) -> u64 {
+    if rng.chance(1, 2) {
+        return 0;
+    }
+    let list = random_closed(rng, k);
+    list.iter().fold(0, |closed, name| closed | 1 << name)
+}
+
+/// A state in range, which may close names; unused places are 0 or anything.
 pub fn state(rng: &mut Random) -> State {
     let [n, l, g, b] = setup(rng);
     let mut state = State {
@@ -91,6 +108,7 @@ pub fn state(rng: &mut Random) -> State {
         l,
         g,
         b,
+        closed: closed_names(rng, l * g * b),
         ..State::BLANK
     };
     fill_gate(rng, &mut state);
@@ -196,15 +214,12 @@ fn add_call(records: &mut Records, rng: &mut Random, good: &State) {
 }
 
 pub fn add(records: &mut Records, rng: &mut Random) {
-    match rng.below(6) {
-        0 => partial::add_any(records, rng),
-        1 => {
-            let good = partial_runs::any_state(rng);
-            add_call(records, rng, &good);
-        }
-        _ => {
-            let good = state(rng);
-            add_call(records, rng, &good);
-        }
-    }
+    let good = match rng.below(8) {
+        0 => return partial::add_any(records, rng),
+        1 => return closed::add_any(records, rng),
+        2 => partial_runs::any_state(rng),
+        3 => closed_runs::any_state(rng),
+        _ => state(rng),
+    };
+    add_call(records, rng, &good);
 }

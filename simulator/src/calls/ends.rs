@@ -12,7 +12,7 @@ use crate::state::{stage, Process, State, COUNTERS, MAX, NO_NAME};
 const SETUPS: [[u8; 4]; 3] = [[5, 2, 1, 1], [64, 16, 2, 2], [12, 1, 2, 8]];
 
 fn gate_ends(records: &mut Records, good: &State) {
-    for gate in [-64, good.names() as i8] {
+    for gate in [-64, good.open_names() as i8] {
         let mut state = good.clone();
         state.gate = gate;
         let [kind, process] = accepted_event(&state, 0);

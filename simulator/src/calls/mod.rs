@@ -1,7 +1,11 @@
-//! Hand-made states driven through the calls, and partial setups.
+//! Hand-made states driven through the calls, partial setups, and setups that
+//! close names.
 
 pub mod broken;
 pub mod chance;
+pub mod closed;
+pub mod closed_runs;
+pub mod closed_states;
 pub mod costs;
 pub mod ends;
 pub mod orders;
@@ -20,6 +24,15 @@ use std::{fs, io};
 
 /// What a lent journal, roll or buffer holds beforehand.
 pub(crate) const UNTOUCHED: u8 = 170;
+
+/// The line of a setup; a refused one gives the blank state.
+fn setup_line(word: &str, made: Result<State, u8>) -> String {
+    let (answer, made) = match made {
+        Ok(made) => (ACCEPTED, made),
+        Err(number) => (number, State::BLANK),
+    };
+    format!("{word} {answer} {}", digest(&made.to_image()))
+}
 
 /// Both files as they grow, up to a number of records.
 pub struct Records {
@@ -87,17 +100,22 @@ impl Records {
     }
 
     /// The partial setup with the four numbers that the state holds; its
-    /// other bytes are not looked at. A refused one gives the blank state.
+    /// other bytes are not looked at.
     pub fn partial_setup(&mut self, state: &State, count: u64) {
         let made = State::partial_setup(state.n, state.l, state.g, state.b, count);
-        let (answer, made) = match made {
-            Ok(made) => (ACCEPTED, made),
-            Err(number) => (number, State::BLANK),
-        };
-        let line = format!("setup {answer} {}", digest(&made.to_image()));
         let mut call = vec![3];
         call.extend(count.to_le_bytes());
-        self.add(state, &call, &line);
+        self.add(state, &call, &setup_line("setup", made));
+    }
+
+    /// The setup with the four numbers that the state holds, as above, and a
+    /// list of at most 600 closed names.
+    pub fn closed_setup(&mut self, state: &State, list: &[u8]) {
+        let made = State::closed_setup(state.n, state.l, state.g, state.b, list);
+        let mut call = vec![4];
+        call.extend((list.len() as u16).to_le_bytes());
+        call.extend(list);
+        self.add(state, &call, &setup_line("closed", made));
     }
 
     /// The roll, with `room` lent records, of the state that the list gives
@@ -142,6 +160,9 @@ pub fn fixed(records: &mut Records, rng: &mut Random) {
     costs::add(records, rng);
     partial::add(records, rng);
     partial_runs::add(records, rng);
+    closed::add(records, rng);
+    closed_runs::add(records, rng);
+    closed_states::add(records, rng);
 }
 
 /// The first `count` records of a seed.

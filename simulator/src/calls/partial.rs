@@ -70,7 +70,7 @@ fn counts(l: u8) -> Vec<u64> {
 }
 
 /// A state with the four numbers; the turn chooses its other bytes.
-fn holder(rng: &mut Random, setup: [u8; 4], turn: usize) -> State {
+pub(crate) fn holder(rng: &mut Random, setup: [u8; 4], turn: usize) -> State {
     let mut image = match turn % 4 {
         0 => State::BLANK.to_image(),
         1 => [255; IMAGE_BYTES],

@@ -21,28 +21,42 @@ pub fn partial(setup: [u8; 4], count: u64) -> State {
     State::partial_setup(n, l, g, b, count).expect("an accepted setup")
 }
 
+/// The fresh state of a setup that closes some names.
+pub fn closed(setup: [u8; 4], list: &[u8]) -> State {
+    let [n, l, g, b] = setup;
+    State::closed_setup(n, l, g, b, list).expect("an accepted setup")
+}
+
 fn any_in(state: &State, stage: u8) -> bool {
     let used = &state.processes[..usize::from(state.n)];
     used.iter().any(|p| p.stage == stage)
 }
 
-/// Workers, one in putname and, where N is above k, a queue of two.
+/// Workers, one in putname and, where N is above the open names, a queue of
+/// two.
 pub(crate) fn busy(state: &State) -> bool {
-    let crowded = state.n >= state.names() + 2;
+    let crowded = state.n >= state.open_names() + 2;
     any_in(state, stage::WORKING)
         && any_in(state, stage::PUTNAME)
         && (!crowded || state.queue_len >= 2)
 }
 
-/// A state reached by a list of events, usually a busy one.
+/// A state reached by a list of events from a setup that closes no name,
+/// usually a busy one.
 pub fn mid_run(rng: &mut Random, setup: [u8; 4]) -> State {
+    mid_run_from(rng, fresh(setup))
+}
+
+/// The same from any state in range.
+pub fn mid_run_from(rng: &mut Random, start: State) -> State {
     let plan = Plan {
         schedule: Schedule::Uniform,
         pool: 64,
         noise: 0,
     };
-    let mut maker = ListMaker::new(rng, setup, plan);
-    maker.lively(8 * usize::from(setup[0]));
+    let length = 8 * usize::from(start.n);
+    let mut maker = ListMaker::from_state(rng, start, plan);
+    maker.lively(length);
     for _ in 0..4000 {
         if busy(&maker.state) {
             break;
@@ -53,9 +67,9 @@ pub fn mid_run(rng: &mut Random, setup: [u8; 4]) -> State {
 }
 
 /// A list of 20 to 120 events, some of them refused, that leaves the fresh
-/// state of the setup a busy one. A dozen processes take part, so k must be
-/// at most 10 where N is above it; other setups may never be busy.
-pub(crate) fn busy_list(rng: &mut Random, setup: [u8; 4]) -> Vec<u8> {
+/// state a busy one. A dozen processes take part, so there must be at most 10
+/// open names where N is above them; other states may never be busy.
+pub(crate) fn busy_list(rng: &mut Random, start: &State) -> Vec<u8> {
     let mut events = Vec::new();
     for _ in 0..1000 {
         let plan = Plan {
@@ -63,7 +77,7 @@ pub(crate) fn busy_list(rng: &mut Random, setup: [u8; 4]) -> Vec<u8> {
             pool: 12,
             noise: 4,
         };
-        let mut maker = ListMaker::new(rng, setup, plan);
+        let mut maker = ListMaker::from_state(rng, start.clone(), plan);
         let least = 20 + maker.rng.below(81);
         maker.lively(least);
         while !busy(&maker.state) && maker.events.len() < 2 * 120 {

@@ -4,6 +4,7 @@ use super::schedule::{ListMaker, Plan, Schedule, SCHEDULES};
 use super::Case;
 use crate::day_file::lay_out;
 use crate::random::Random;
+use crate::state::State;
 
 /// All accepted triples L, g, b.
 pub fn triples() -> Vec<[u8; 3]> {
@@ -33,34 +34,40 @@ fn processes(rng: &mut Random, turn: usize, k: u8) -> u8 {
 
 /// How many take part: a few more than the segment or the gate lets in at
 /// once, or all if the list is long enough for them.
-fn pool(rng: &mut Random, setup: [u8; 4], count: usize) -> u8 {
-    let [n, l, g, b] = setup;
-    let k = l * g * b;
-    if count >= 6 * usize::from(n) && rng.chance(1, 4) {
-        return n;
+fn pool(rng: &mut Random, start: &State, count: usize) -> u8 {
+    let names = start.open_names();
+    if count >= 6 * usize::from(start.n) && rng.chance(1, 4) {
+        return start.n;
     }
     let few = (count / 10).clamp(2, 64) as u8;
-    few.max(if k <= 12 { k + 3 } else { b + 3 })
+    few.max(if names <= 12 { names + 3 } else { start.b + 3 })
 }
 
-/// The list of an accepted setup under a schedule chosen by `turn`. Where N
-/// is above k, most lists begin with a crowd at the gate.
+/// The list of an accepted setup that closes no name, under a schedule chosen
+/// by `turn`. Where N is above k, most lists begin with a crowd at the gate.
 pub fn lively_list(rng: &mut Random, turn: usize, setup: [u8; 4], count: usize) -> Vec<u8> {
     let [n, l, g, b] = setup;
-    let k = l * g * b;
-    let crowded = n > k && rng.chance(2, 3);
+    let start = State::setup(n, l, g, b).expect("an accepted setup");
+    lively_list_from(rng, turn, start, count)
+}
+
+/// The same from a fresh state, which may close names: its open names stand
+/// for k.
+pub fn lively_list_from(rng: &mut Random, turn: usize, start: State, count: usize) -> Vec<u8> {
+    let names = start.open_names();
+    let crowded = start.n > names && rng.chance(2, 3);
     let mut plan = Plan {
         schedule: SCHEDULES[turn % SCHEDULES.len()],
-        pool: pool(rng, setup, count),
+        pool: pool(rng, &start, count),
         noise: 8,
     };
     if crowded {
-        plan.pool = k + 3;
+        plan.pool = names + 3;
     }
-    if crowded && k > 8 {
+    if crowded && names > 8 {
         plan.schedule = Schedule::Sticky;
     }
-    let mut maker = ListMaker::new(rng, setup, plan);
+    let mut maker = ListMaker::from_state(rng, start, plan);
     if crowded {
         maker.crowd();
     }

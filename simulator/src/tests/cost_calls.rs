@@ -163,7 +163,7 @@ fn random_costs() {
 
 #[test]
 fn random_calls_show_costs_past_the_end() {
-    let calls = read(&calls::all(1, 2_000));
+    let calls = read(&calls::all(1, 3_000));
     let fixed = fixed_calls().len();
     let shown = calls[fixed..].iter().filter(|call| {
         let used = 0..usize::from(call.state.n.min(64));

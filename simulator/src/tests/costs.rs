@@ -1,6 +1,6 @@
 //! Document 02, request b: what counts, what is shown and the sum's range.
 
-use super::{accept, fresh};
+use super::{accept, fresh, open_below, open_names};
 use crate::calls::chance;
 use crate::cases::worked::{P11_EVENTS, P11_SETUP};
 use crate::random::Random;
@@ -57,8 +57,8 @@ fn image_of_a_process() {
         returns: 6,
     };
     let image = state.to_image();
-    assert_eq!(image.len(), 534);
-    assert_eq!(image[528..], [1, 2, 3, 4, 5, 6]);
+    assert_eq!(image.len(), 542);
+    assert_eq!(image[536..], [1, 2, 3, 4, 5, 6]);
     assert_eq!(State::from_image(&image), state);
 }
 
@@ -194,10 +194,9 @@ fn counts(p: &Process) -> bool {
 fn other_limit(state: &State, p: &Process) -> bool {
     match (p.stage, p.name, p.node) {
         (1, ..) => state.gate == -64 || state.gate <= 0 && state.queue_len == 64,
-        (5, NO_NAME, 1) => state.gate == state.names() as i8,
+        (5, NO_NAME, 1) => state.gate == open_names(state).len() as i8,
         (5, NO_NAME, v) if v.is_multiple_of(2) => {
-            let parent = usize::from(v / 2);
-            state.counters[parent] == state.fresh_counter(parent)
+            state.counters[usize::from(v / 2)] == open_below(state, v)
         }
         _ => false,
     }

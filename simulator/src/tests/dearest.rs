@@ -117,7 +117,7 @@ fn the_dearest_holder() {
     }
     assert_eq!(dearest_holder(&State::BLANK), 0);
     for (byte, most) in [(4, 4), (255, 0)] {
-        let state = State::from_image(&[byte; 534]);
+        let state = State::from_image(&[byte; 542]);
         assert_eq!(dearest_holder(&state), most);
     }
 }

@@ -20,9 +20,9 @@ fn images_round_trip() {
 fn any_image_and_any_bytes() {
     let mut rng = Random::new(4);
     for round in 0..4000 {
-        let mut image: [u8; 534] = chance::state(&mut rng).to_image();
+        let mut image: [u8; 542] = chance::state(&mut rng).to_image();
         if round % 2 == 0 {
-            let at = rng.below(534);
+            let at = rng.below(542);
             image[at] = rng.byte();
         }
         let mut state = State::from_image(&image);
@@ -115,12 +115,12 @@ fn batches_are_repeatable() {
         .filter(|&x| x == 32_767);
     assert_eq!(most.count(), 2);
     assert_eq!(cases::all(7, 9).len(), 9);
-    let calls = calls::all(7, 1_200);
-    assert_eq!(calls.count, 1_200);
-    assert_eq!(calls.output.lines().count(), 1_200);
-    let again = calls::all(7, 1_200);
+    let calls = calls::all(7, 2_000);
+    assert_eq!(calls.count, 2_000);
+    assert_eq!(calls.output.lines().count(), 2_000);
+    let again = calls::all(7, 2_000);
     assert!(calls.input == again.input && calls.output == again.output);
-    assert!(calls.input != calls::all(8, 1_200).input);
+    assert!(calls.input != calls::all(8, 2_000).input);
     assert_eq!(calls::all(7, 3).count, 3);
 }
 
@@ -131,7 +131,7 @@ fn numbers_of_fixed_cases_and_records() {
         assert_eq!(cases::fixed(&mut rng).len(), 340);
         let mut records = Records::new(usize::MAX);
         calls::fixed(&mut records, &mut rng);
-        assert_eq!(records.count, 1_109);
+        assert_eq!(records.count, 1_920);
     }
 }
 

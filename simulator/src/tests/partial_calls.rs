@@ -44,7 +44,7 @@ fn faults(setup: [u8; 4]) -> Vec<u8> {
 #[test]
 fn record_and_line() {
     let mut records = Records::new(3);
-    let mut state = State::from_image(&[255; 534]);
+    let mut state = State::from_image(&[255; 542]);
     (state.n, state.l, state.g, state.b) = (1, 2, 1, 1);
     records.partial_setup(&state, 0x0102_0304_0506_0708);
     records.partial_setup(&state, 0);
@@ -59,14 +59,14 @@ fn record_and_line() {
         "setup 1 0\n".to_string(),
     ];
     assert_eq!(records.output, lines.concat());
-    assert_eq!(records.input.len(), 3 * 543);
+    assert_eq!(records.input.len(), 3 * 551);
     assert_eq!(records.input[..5], [1, 2, 1, 1, 255]);
-    assert_eq!(records.input[534..543], [3, 8, 7, 6, 5, 4, 3, 2, 1]);
+    assert_eq!(records.input[542..551], [3, 8, 7, 6, 5, 4, 3, 2, 1]);
     assert_eq!(
-        records.input[543 + 534..2 * 543],
+        records.input[551 + 542..2 * 551],
         [3, 0, 0, 0, 0, 0, 0, 0, 0]
     );
-    assert_eq!(records.input[2 * 543..2 * 543 + 4], [0, 2, 1, 1]);
+    assert_eq!(records.input[2 * 551..2 * 551 + 4], [0, 2, 1, 1]);
 }
 
 /// The counts of the accepted setups with so many leaves.
@@ -426,17 +426,18 @@ fn expected_setup(call: &Call) -> String {
     }
     let [n, l, g, b] = call.setup().map(usize::from);
     let k = l * g * b;
-    let mut image = [0; 534];
-    image[..5].copy_from_slice(&[n, l, g, b, k].map(|number| number as u8));
+    let mut image = [0; 542];
+    image[..4].copy_from_slice(&call.setup());
+    image[12] = k as u8;
     let mut filled = 0;
     for v in (1..l).rev() {
         if filled < call.count {
-            image[70 + v] = (k >> (v.ilog2() + 1)) as u8;
+            image[78 + v] = (k >> (v.ilog2() + 1)) as u8;
             filled += 1;
         }
     }
     for p in 0..n {
-        let at = 150 + 6 * p;
+        let at = 158 + 6 * p;
         image[at..at + 4].copy_from_slice(&[0, 1, 0, 255]);
     }
     let figure = image
@@ -449,14 +450,15 @@ fn expected_setup(call: &Call) -> String {
 #[test]
 fn records_play_back() {
     for seed in [1, 2, 3] {
-        let records = calls::all(seed, 1_500);
+        let records = calls::all(seed, 2_400);
         let mut again = Records::new(usize::MAX);
         for call in read(&records) {
             match call.number {
                 0 => again.event(&call.state, call.events[0], call.events[1]),
                 1 => again.list(&call.state, &call.events, call.journal_len),
                 2 => again.report(&call.state),
-                _ => again.partial_setup(&call.state, call.count),
+                3 => again.partial_setup(&call.state, call.count),
+                _ => again.closed_setup(&call.state, &call.closed),
             }
             if call.number == 3 {
                 assert_eq!(call.text, expected_setup(&call));
@@ -470,12 +472,12 @@ fn records_play_back() {
 /// Kinds of calls among the records that the comparison uses.
 #[test]
 fn numbers_of_kinds() {
-    let calls = read(&calls::all(1, 1_200));
-    let mut numbers = [0; 4];
+    let calls = read(&calls::all(1, 2_000));
+    let mut numbers = [0; 5];
     for call in &calls {
         numbers[usize::from(call.number)] += 1;
     }
-    assert_eq!(numbers.iter().sum::<usize>(), 1_200);
+    assert_eq!(numbers.iter().sum::<usize>(), 2_000);
     assert!(numbers.iter().all(|&number| number >= 140), "{numbers:?}");
     let fixed = fixed_calls().len();
     let random = partial_setups(&calls[fixed..]);

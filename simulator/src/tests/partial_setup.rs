@@ -8,7 +8,7 @@ use crate::state::{stage, Process};
 use crate::{GateReport, State};
 
 /// Where the counters stand in a state image.
-const COUNTERS_AT: usize = 70;
+const COUNTERS_AT: usize = 78;
 
 /// Counts below any number of leaves, about them and far above.
 fn counts() -> Vec<u64> {
@@ -122,7 +122,7 @@ fn neighbouring_counts_differ_at_one_counter() {
         for count in 0..last {
             let fewer = partial(setup, count as u64).to_image();
             let more = partial(setup, count as u64 + 1).to_image();
-            let places = (0..534).filter(|&place| fewer[place] != more[place]);
+            let places = (0..542).filter(|&place| fewer[place] != more[place]);
             let at = COUNTERS_AT + last - count;
             assert_eq!(places.collect::<Vec<_>>(), [at]);
             assert_eq!([fewer[at], more[at]], [0, whole[at]]);

@@ -7,7 +7,7 @@ use crate::State;
 /// A record and its line.
 pub struct Call {
     pub state: State,
-    /// 0 event, 1 list, 2 report, 3 partial setup.
+    /// 0 event, 1 list, 2 report, 3 partial setup, 4 setup with closed names.
     pub number: u8,
     /// Kind and process of an event, or the events of a list.
     pub events: Vec<u8>,
@@ -15,6 +15,8 @@ pub struct Call {
     pub journal_len: u8,
     /// Count of a partial setup.
     pub count: u64,
+    /// Closed names of a setup.
+    pub closed: Vec<u8>,
     /// The figures of the line after its first word.
     pub line: Vec<usize>,
     pub text: String,
@@ -51,22 +53,25 @@ fn take(input: &mut &[u8], line: &str) -> Call {
         1 => (3, usize::from(rest[1])),
         2 => (1, 0),
         3 => (1, 8),
+        4 => (3, usize::from(u16::from_le_bytes([rest[1], rest[2]]))),
         number => panic!("{number}"),
     };
     let number = rest[0];
     let journal_len = if number == 1 { rest[2] } else { 0 };
     let (taken, rest) = rest[skipped..].split_at(bytes);
     *input = rest;
-    let (events, count) = match number {
-        3 => (&[][..], u64::from_le_bytes(taken.try_into().unwrap())),
-        _ => (taken, 0),
+    let count = match number {
+        3 => u64::from_le_bytes(taken.try_into().unwrap()),
+        _ => 0,
     };
+    let only = |wanted: bool| if wanted { taken.to_vec() } else { Vec::new() };
     Call {
         state: State::from_image(image),
         number,
-        events: events.to_vec(),
+        events: only(number < 3),
         journal_len,
         count,
+        closed: only(number == 4),
         line: figures(line),
         text: line.to_string(),
     }

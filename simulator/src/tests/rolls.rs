@@ -1,6 +1,8 @@
 //! The roll and its generator.
 
-use super::{accept, fresh};
+use super::{accept, closed, fresh};
+use crate::calls::closed_runs::{with_open, OPENINGS};
+use crate::calls::closed_states::{self, CLOSURES};
 use crate::calls::{broken, chance, reached, Records};
 use crate::random::Random;
 use crate::{rolls, State, Status};
@@ -10,6 +12,9 @@ const UNTOUCHED: Status = Status {
     name: 170,
     cost: 170,
 };
+
+/// Number of records that come first.
+const FIXED: usize = 302;
 
 fn status(stage: u8, name: u8, cost: u8) -> Status {
     Status { stage, name, cost }
@@ -89,26 +94,35 @@ fn lines_of_a_roll() {
                     roll 0 0 255 2 3 255 0 0 255 0\n\
                     roll 13 170 170 170\nroll 15\n";
     assert_eq!(records.output, expected);
-    assert_eq!(records.input.len(), 4 * 536 + 12 + 2 + 2);
-    assert_eq!(records.input[..534], three().to_image());
-    assert_eq!(records.input[534..536], [0, 4]);
-    assert_eq!(records.input[1070..1075], [12, 2, 0, 3, 0]);
-    assert_eq!(records.input[1083], 3);
+    assert_eq!(records.input.len(), 4 * 544 + 12 + 2 + 2);
+    assert_eq!(records.input[..542], three().to_image());
+    assert_eq!(records.input[542..544], [0, 4]);
+    assert_eq!(records.input[1086..1091], [12, 2, 0, 3, 0]);
+    assert_eq!(records.input[1099], 3);
 }
 
+/// Two of the kinds need a closed name.
 #[test]
 fn every_kind_breaks_in_the_main_setups() {
+    let filled = |state: &State| {
+        let kinds = broken::kinds(state, 0);
+        assert_eq!(kinds.len(), 19);
+        kinds.iter().filter(|kind| !kind.is_empty()).count()
+    };
     for setup in reached::SETUPS {
-        let kinds = broken::kinds(&fresh(setup), 0);
-        assert_eq!(kinds.len(), 16);
-        assert!(kinds.iter().all(|kind| !kind.is_empty()));
+        assert_eq!(filled(&fresh(setup)), 17);
+    }
+    for (setup, list) in CLOSURES {
+        assert_eq!(filled(&closed(setup, list)), 19);
     }
 }
 
 /// Every list of `mendable` mends its state when the state is not checked.
 #[test]
 fn mendable_states_are_refused() {
-    for (state, events) in rolls::mendable() {
+    let more = closed_states::mendable();
+    for (state, events) in rolls::mendable().into_iter().chain(more) {
+        let n = usize::from(state.n);
         let mut after = state.clone();
         assert!(!after.in_range());
         for event in events.chunks(2) {
@@ -118,19 +132,26 @@ fn mendable_states_are_refused() {
         after = state.clone();
         assert_eq!(after.run(&events, &mut [0; 12]), 15);
         assert_eq!(after, state);
-        refused(&after, 7, 15);
+        refused(&after, n, 15);
     }
 }
 
 #[test]
 fn busy_lists() {
-    let crowded = [[14, 4, 1, 2], [64, 1, 2, 1]];
+    let setups = [&reached::SETUPS[..], &[[14, 4, 1, 2], [64, 1, 2, 1]]].concat();
+    let mut states: Vec<State> = setups.into_iter().map(fresh).collect();
+    states.extend(
+        CLOSURES[..2]
+            .iter()
+            .map(|&(setup, list)| closed(setup, list)),
+    );
+    states.push(with_open(OPENINGS[OPENINGS.len() - 1]));
     for seed in 0..20 {
         let mut rng = Random::new(seed);
-        for &setup in reached::SETUPS.iter().chain(&crowded) {
-            let events = reached::busy_list(&mut rng, setup);
+        for start in &states {
+            let events = reached::busy_list(&mut rng, start);
             assert!((20..=120).contains(&(events.len() / 2)));
-            let mut state = fresh(setup);
+            let mut state = start.clone();
             state.run(&events, &mut vec![0; 2 * events.len()]);
             assert!(reached::busy(&state));
         }
@@ -156,9 +177,9 @@ fn read(mut input: &[u8]) -> Vec<(State, Vec<u8>, usize)> {
 /// The records read back and played event by event give the same lines.
 #[test]
 fn records_play_back() {
-    let records = rolls::all(3, 400);
+    let records = rolls::all(3, 500);
     let read = read(&records.input);
-    assert_eq!(read.len(), 400);
+    assert_eq!(read.len(), 500);
     for ((mut state, events, room), line) in read.into_iter().zip(records.output.lines()) {
         assert!(events.len() <= 254 && events.len().is_multiple_of(2) && room <= 80);
         for event in events.chunks(2) {
@@ -176,18 +197,18 @@ fn records_play_back() {
 /// Lists of no event and of the most, and broken states with and without.
 #[test]
 fn lists_of_all_lengths() {
-    let read = read(&rolls::all(5, 223).input);
+    let read = read(&rolls::all(5, FIXED).input);
     let number = |good: bool, bytes: std::ops::RangeInclusive<usize>| {
         read.iter()
             .filter(|(state, events, _)| state.in_range() == good && bytes.contains(&events.len()))
             .count()
     };
-    assert!(number(true, 0..=0) >= 16);
-    assert!(number(true, 2..=24) >= 36);
-    assert!(number(true, 40..=240) >= 32);
+    assert!(number(true, 0..=0) >= 20);
+    assert!(number(true, 2..=24) >= 50);
+    assert!(number(true, 40..=240) >= 41);
     assert!(number(true, 254..=254) >= 1);
-    assert!(number(false, 0..=0) >= 61);
-    assert!(number(false, 2..=254) >= 70);
+    assert!(number(false, 0..=0) >= 85);
+    assert!(number(false, 2..=254) >= 98);
 }
 
 #[test]
@@ -195,13 +216,13 @@ fn batches_of_rolls() {
     for seed in 0..20 {
         let mut records = Records::new(usize::MAX);
         rolls::fixed(&mut records, &mut Random::new(seed));
-        assert_eq!(records.count, 223);
+        assert_eq!(records.count, FIXED);
     }
-    let first = rolls::all(7, 250);
-    let second = rolls::all(7, 250);
+    let first = rolls::all(7, 340);
+    let second = rolls::all(7, 340);
     assert!(first.input == second.input && first.output == second.output);
-    assert!(first.input.len() < 165_000);
-    assert_eq!(first.output.lines().count(), 250);
+    assert!(first.input.len() < 220_000);
+    assert_eq!(first.output.lines().count(), 340);
     assert!(first.input.starts_with(&rolls::all(7, 9).input));
     assert_eq!(rolls::all(7, 9).count, 9);
 }
