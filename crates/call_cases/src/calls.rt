@@ -1,6 +1,7 @@
 // One record of the input: a state's image, the call's number, and what the call is given besides. 0 is an event, with its
 // kind and its process; 1 a list, with the events' length, the journal's length and the events; 2 the gate report; 3 the setup
-// of the state's four numbers with a count, in eight bytes, low byte first.
+// of the state's four numbers with a count, in eight bytes, low byte first; 4 the setup of these with a list of closed names, its
+// length in two bytes, low byte first, and the list.
 use cases::image;
 use cases::input;
 use cases::line;
@@ -90,17 +91,39 @@ fn setup_call(state: State) -> bool {
     if io::read_full(0, &mut given) < 8 {
         return false;
     }
-    let done = setup::partial_setup(state.setup, count_of(&given));
+    let c = state.setup;
+    let done = setup::partial_setup(c.processes, c.leaves, c.segments, c.bits, count_of(&given));
     let after = done.state;
     let numbers = [input::number(done.answer), image::digest(after)];
     print(b"setup", &numbers)
 }
 
+// A setup with a list of closed names, of at most 600 bytes: the answer, and the digest of the state that it gave.
+fn closed_call(state: State) -> bool {
+    let mut given = [0u8; 2];
+    if io::read_full(0, &mut given) < 2 {
+        return false;
+    }
+    let n = input::size(given[0]) + 256 * input::size(given[1]);
+    if n > 600 {
+        return false;
+    }
+    let mut list = [0u8; 600];
+    if io::read_full(0, &mut list[0..n]) < n {
+        return false;
+    }
+    let c = state.setup;
+    let done = setup::closed_setup(c.processes, c.leaves, c.segments, c.bits, &list[0..n]);
+    let after = done.state;
+    let numbers = [input::number(done.answer), image::digest(after)];
+    print(b"closed", &numbers)
+}
+
 // Reads a record, makes its call and prints its line. False where the input ends, within a record too, and where the number is
 // no call's.
 pub(crate) fn next() -> bool {
-    let mut image = [0u8; 534];
-    if io::read_full(0, &mut image) < 534 {
+    let mut image = [0u8; 542];
+    if io::read_full(0, &mut image) < 542 {
         return false;
     }
     let mut call = [0u8; 1];
@@ -114,6 +137,7 @@ pub(crate) fn next() -> bool {
         1 => list_call(state),
         2 => report_call(state),
         3 => setup_call(state),
+        4 => closed_call(state),
         _ => false,
     }
 }

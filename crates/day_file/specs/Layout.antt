@@ -80,7 +80,7 @@ layoutChecks f =
 unfoldable pub layoutAnswer : List ℕ → ℕ
 layoutAnswer f = checked (layoutChecks f) (λ a. a) answer.accepted
 
--- Body 1 is N, L, g, b, one byte each, from byte 23 on.
+-- Body 1 is N, L, g, b, one byte each, from byte 23 on. "Day files close none" (document 02, e).
 abbrev pub bodySetup : List ℕ → Setup
 bodySetup f = plain (byte f 23) (byte f 24) (byte f 25) (byte f 26)
 

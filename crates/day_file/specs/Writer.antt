@@ -41,7 +41,7 @@ listChecks size room =
     ∷ check answer.noRoom (leb (headSize + size) room)
     ∷ []
 
--- 1 to 5 come first.
+-- 1 to 5 come first. (The file is written "from the four numbers alone", which close none; then 19 and 20 never come.)
 abbrev pub writeChecks : Setup → ℕ → ℕ → List Check
 writeChecks c size room = setupChecks c ++ listChecks size room
 

@@ -1,4 +1,5 @@
 // The layout of a day file: the contents first, then the setup and the events.
+use fresh::limits;
 use machine::Setup;
 use machine::answer;
 ghost use mathlib.Core.Path.{_≡_};
@@ -94,15 +95,10 @@ pub(crate) fn layout_answer(file: &[u8]) -> u8
     answer::ACCEPTED
 }
 
-// Body 1: the setup's four numbers.
+// Body 1: the setup's four numbers. It closes none.
 pub(crate) fn body_setup(file: &[u8]) -> Setup
     requires { ⌜ headSize ≤ length (now file) ⌝ }
     ensures { λ r. ⌜ r ≡ bodySetup (now (file .entry)) ⌝ }
 {
-    Setup {
-        processes: file[23],
-        leaves: file[24],
-        segments: file[25],
-        bits: file[26],
-    }
+    limits::setup_of(file[23], file[24], file[25], file[26], 0)
 }

@@ -32,7 +32,8 @@ pub fn read_setup(file: &[u8]) -> Done
             state: state::blank_state(),
         };
     }
-    setup::setup(layout::body_setup(file))
+    let body = layout::body_setup(file);
+    setup::setup(body.processes, body.leaves, body.segments, body.bits)
 }
 
 // The events, the caller's own file from byte 27 on and no copy; of a refused file, an empty part of it. The last line of the contract

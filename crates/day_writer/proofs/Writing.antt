@@ -13,7 +13,7 @@ use Rattle.machine.proofs.Facts.Checks.{Passed, all-passed}
 use Rattle.machine.proofs.Facts.Lists.{sets-start}
 use Rattle.machine.proofs.Facts.SetupFirst.{first-refused, first-passed, has-setup}
 use Rattle.day_file.specs.Layout.{headSize, longest}
-use Rattle.day_file.specs.Writer.{headBytes, fileBytes, listChecks, writeChecks, writeAnswer}
+use Rattle.day_file.specs.Writer.{headBytes, fileBytes, listChecks, writeAnswer}
 
 module _ (c : Setup) (size room : ℕ) where
   abbrev later : ℕ
@@ -29,22 +29,22 @@ module _ (c : Setup) (size room : ℕ) where
 
   -- what an accepted call has
   module _ (accepted : writeAnswer c size room ≡ 0) where
-    passed : Passed (writeChecks c size room)
-    unfolding writeAnswer
-    passed = all-passed (writeChecks c size room) refl accepted
-
     pub passed-setup : setupAnswer c ≡ 0
     unfolding writeAnswer
     passed-setup = has-setup c (listChecks size room) accepted
 
+    passed : Passed (listChecks size room)
+    unfolding writeAnswer
+    passed = all-passed (listChecks size room) refl (sym (first-passed c (listChecks size room) passed-setup) ∙ accepted)
+
     pub even : size % 2 ≡ 0
-    even = eqb-true (size % 2) 0 (passed .1 .1 .1 .1 .1 .0)
+    even = eqb-true (size % 2) 0 (passed .0)
 
     pub not-long : headSize + size ≤ longest
-    not-long = leb-true (headSize + size) longest (passed .1 .1 .1 .1 .1 .1 .0)
+    not-long = leb-true (headSize + size) longest (passed .1 .0)
 
     pub has-room : headSize + size ≤ room
-    has-room = leb-true (headSize + size) room (passed .1 .1 .1 .1 .1 .1 .1 .0)
+    has-room = leb-true (headSize + size) room (passed .1 .1 .0)
 
 pub head-length : (c : Setup) (size : ℕ) → length (headBytes c size) ≡ headSize
 unfolding headBytes

@@ -3,7 +3,6 @@ use day_file::layout::HEAD_SIZE;
 use day_file::layout::LONGEST;
 use day_file::layout::TURN;
 use fresh::limits;
-use machine::Setup;
 use machine::Written;
 use machine::answer;
 ghost use mathlib.Core.Path.{_≡_};
@@ -65,12 +64,8 @@ fn put_head(out: &mut [u8], n: u8, l: u8, g: u8, b: u8, size: usize)
 fn write_answer(n: u8, l: u8, g: u8, b: u8, size: usize, room: usize) -> u8
     ensures { λ r. ⌜ r ≡ writeAnswer (plain n l g b) size room ⌝ }
 {
-    let a = limits::setup_answer(Setup {
-        processes: n,
-        leaves: l,
-        segments: g,
-        bits: b,
-    });
+    let setup = limits::setup_of(n, l, g, b, 0);
+    let a = limits::setup_answer(setup);
     if a != answer::ACCEPTED {
         return a;
     }

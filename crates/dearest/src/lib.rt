@@ -12,7 +12,7 @@ ghost use lib.ListN.{length, replicate};
 ghost use lib.Seq.{sets};
 ghost use Rattle.machine.specs.Kind;
 ghost use Rattle.machine.specs.Lists.{eventOf, listBytes};
-ghost use Rattle.machine.specs.Setup.{height, setupAnswer};
+ghost use Rattle.machine.specs.Setup.{plain, height, setupAnswer};
 ghost use Rattle.dearest_claim.specs.Dearest.{tried, claims, dear, dearestAnswer, dearestList, dearestBuffer};
 
 // The bytes that the lent buffer must have.
@@ -104,9 +104,8 @@ fn list_answer(setup: Setup, room: usize) -> u8
     answer::ACCEPTED
 }
 
-// The list at the start of the buffer, with its figure. Refused with 1 to 5, then 18 when the buffer is under 4,096 bytes: nothing is
-// written.
-pub fn dearest_list(setup: Setup, out: &mut [u8]) -> DearestList
+// The list of a setup at the start of the buffer, with its figure; a refused one writes nothing.
+fn list_of(setup: Setup, out: &mut [u8]) -> DearestList
     ensures { λ r. ⌜ (r ≡ dearestList setup (now (out .entry))) × (now (out .exit) ≡ dearestBuffer setup (now (out .entry))) ⌝ }
 {
     let refused = list_answer(setup, out.len());
@@ -124,4 +123,14 @@ pub fn dearest_list(setup: Setup, out: &mut [u8]) -> DearestList
         figure: height_of(setup.leaves) + segments,
         size: size,
     }
+}
+
+// The list at the start of the buffer, with its figure, for a setup of four numbers, which closes none. Refused with 1 to 5, then 18 when
+// the buffer is under 4,096 bytes: nothing is written.
+pub fn dearest_list(n: u8, l: u8, g: u8, b: u8, out: &mut [u8]) -> DearestList
+    ensures { λ r. ⌜ (r ≡ dearestList (plain n l g b) (now (out .entry)))
+        × (now (out .exit) ≡ dearestBuffer (plain n l g b) (now (out .entry))) ⌝ }
+{
+    let setup = limits::setup_of(n, l, g, b, 0);
+    list_of(setup, out)
 }

@@ -6,7 +6,6 @@ use cases::input;
 use cases::line;
 use day_file::layout;
 use machine::DearestList;
-use machine::Setup;
 use machine::State;
 use machine::answer;
 use machine::stage;
@@ -43,8 +42,8 @@ fn dearest_holder(state: State) -> u8 {
 }
 
 // That of the state after a list from a setup's own state.
-fn holder_after(numbers: Setup, events: &[u8]) -> u8 {
-    let start = setup::setup(numbers);
+fn holder_after(four: [u8; 4], events: &[u8]) -> u8 {
+    let start = setup::setup(four[0], four[1], four[2], four[3]);
     let mut journal = [0u8; 8192];
     let ran = list::run(start.state, events, &mut journal);
     dearest_holder(ran.state)
@@ -77,13 +76,13 @@ fn size_amiss(made: DearestList) -> u8 {
 }
 
 // Makes the call with these bytes for its buffer, runs the list, and prints the line. A byte past the list that changed is amiss too.
-fn make_call(numbers: Setup, out: &mut [u8]) -> bool {
-    let made = dearest::dearest_list(numbers, &mut *out);
+fn make_call(four: [u8; 4], out: &mut [u8]) -> bool {
+    let made = dearest::dearest_list(four[0], four[1], four[2], four[3], &mut *out);
     let size = made.size;
     if size > out.len() {
         return print_numbers(made, 0, 1);
     }
-    let holder = holder_after(numbers, &out[0..size]);
+    let holder = holder_after(four, &out[0..size]);
     if !is_kept(&out[size..]) {
         return print_numbers(made, holder, 1);
     }
@@ -101,13 +100,8 @@ fn next() -> bool {
     if room > out.len() {
         return false;
     }
-    let numbers = Setup {
-        processes: head[0],
-        leaves: head[1],
-        segments: head[2],
-        bits: head[3],
-    };
-    make_call(numbers, &mut out[0..room])
+    let four = [head[0], head[1], head[2], head[3]];
+    make_call(four, &mut out[0..room])
 }
 
 // A proved loop has to end, and nothing says that the input does. So the loop counts its turns down, from a number that no run uses

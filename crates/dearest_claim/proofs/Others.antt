@@ -1,7 +1,8 @@
--- Processes that claim one after the other. While process n claims, those before it work, each with its own number for a name, and those
+-- Processes that claim one after the other, where none is closed. While process n claims, those before it work, each with its own number for a name, and those
 -- after it are in their remainder section. So at most n + 1 are admitted, the gate is open to n, and the name that it wins is n.
 --     Others         where the other processes are
 --     one, event-others    process n, and an event of it
+--     none-closed    no name is closed in its state
 --     gate-open      the gate is open to process n
 --     own-name, own-steps    what process n holds, and what it cost
 -- Assumes nothing.
@@ -19,13 +20,13 @@ use Rattle.machine.specs.Lists.{eventOf}
 use Rattle.machine.specs.Setup.{names, height}
 use Rattle.machine.specs.Stage.{remainder, waiting, working}
 use Rattle.machine.proofs.Laws.OnePlace.{others-unchanged, setup-unchanged}
+use Rattle.machine.proofs.Laws.Plain.{open-all, rank-all}
 use Rattle.renaming_claim.proofs.Bits.{bit-of}
 use Rattle.renaming_claim.proofs.Facts.Sums.{ind-le, sum-le, sum-const, sum-zero, sum-split}
 use Rattle.renaming_claim.proofs.Implies.{name-low, names-unlike}
 use Rattle.renaming_claim.proofs.Invariant.{tally, beyond, GateWord, Stands}
 use Rattle.renaming_claim.proofs.Mover.{Setup, Process, State, processAt, Sound, Mover, inv, shape, by-stage, own-range, limits}
 use Rattle.renaming_claim.proofs.Preserved.{event-sound}
-use Rattle.renaming_claim.proofs.Regions.{open-is}
 
 -- of n numbers at most m pass a test that none from m on passes
 few : (n m : ℕ) (f : ℕ → Bool) → m ≤ n → ((y : ℕ) → m ≤ y → y < n → f y ≡ false) → sumBelow n (λ y. ind (f y)) ≤ m
@@ -46,8 +47,9 @@ pub record HoldsAt (y stage name : ℕ) : Type 0 where
   pub own : name ≡ y
 
 module _ (c : Setup) (n : ℕ) where
-  -- the invariant holds with every M above n; and where those before n and those behind it are
+  -- no name is closed, the invariant holds with every M above n; and where those before n and those behind it are
   pub record Others (s : State) : Type 0 where
+    pub none : c .closed ≡ 0
     pub sound : (M : ℕ) → n < M → Sound M s
     pub setup : s .setup ≡ c
     pub before : (y : ℕ) → y < n → HoldsAt y (processAt s y .stage) (processAt s y .name)
@@ -63,6 +65,7 @@ module _ (c : Setup) (n : ℕ) where
     pub event-others : {s : State} → Others s → (kind : ℕ) → Others (event s kind n .state)
     event-others {s} o kind =
         record {
+          none = o .none;
           sound = λ M l. event-sound (o .sound M l) (eventOf kind n) (omega (arith, few-in));
           setup = same ∙ o .setup;
           before = λ y l. subst (λ (x : Process). HoldsAt y (x .stage) (x .name)) (sym (other y (λ e. omega arith))) (o .before y l);
@@ -90,6 +93,9 @@ module _ (c : Setup) (n : ℕ) where
       abbrev h : Process
       h = processAt s n
 
+      pub none-closed : s .setup .closed ≡ 0
+      none-closed = ap (λ (d : Setup). d .closed) (o .setup) ∙ o .none
+
       few-beyond : h .stage < waiting → tally (s .setup) beyond (s .process) ≤ n
       unfolding tally beyond
       few-beyond low =
@@ -104,9 +110,9 @@ module _ (c : Setup) (n : ℕ) where
       gate-open low more = go (s .gate) (inv m .gate .word)
         where
           go : (a : ℤ) → GateWord (s .setup) a (tally (s .setup) beyond (s .process)) (s .queued) → above0 a ≡ true
-          go (pos zero) k = absurd (omega (arith, few-beyond low, more, k .0, open-is (s .setup) 0 (names (s .setup))))
+          go (pos zero) k = absurd (omega (arith, few-beyond low, more, k .0, open-all (s .setup) none-closed 0 (names (s .setup))))
           go (pos (suc a)) k = lt-ltb 0 (suc a) (omega arith)
-          go (negsuc a) k = absurd (omega (arith, few-beyond low, more, k .0, open-is (s .setup) 0 (names (s .setup))))
+          go (negsuc a) k = absurd (omega (arith, few-beyond low, more, k .0, open-all (s .setup) none-closed 0 (names (s .setup))))
 
       module _ (e : h .stage ≡ working) where
         -- the names below n are taken, and its own is below n + 1
@@ -116,7 +122,7 @@ module _ (c : Setup) (n : ℕ) where
             go : Dec (h .name < n) → h .name ≡ n
             go (yes k) =
                 absurd (names-unlike m e (h .name) (omega (arith, m .known)) (λ q. omega arith) (sym (o .before (h .name) k .own)))
-            go (no k) = omega (arith, name-low m e)
+            go (no k) = omega (arith, name-low m e, rank-all (s .setup) none-closed (h .name))
 
         -- name n lies in segment n div b of leaf 0
         own-segment : n < s .setup .segments * s .setup .bits → h .segment ≡ n / s .setup .bits

@@ -32,7 +32,7 @@ use Rattle.renaming_claim.proofs.Steps.{claim-accepted, claim-steps, claim-next
 use Rattle.dearest_claim.specs.Dearest.{stepsOf, claim, claims}
 use Rattle.dearest_claim.proofs.Cost.{cost-most}
 use Rattle.dearest_claim.proofs.Entered.{request-accepted, requested, enter-accepted, entered}
-use Rattle.dearest_claim.proofs.Others.{HoldsAt, Others, one, event-others, gate-open, own-name, own-steps}
+use Rattle.dearest_claim.proofs.Others.{HoldsAt, Others, one, event-others, gate-open, own-name, own-steps, none-closed}
 
 -- no event of a list is refused
 abbrev pub Accepted : State → List Event → Type 0
@@ -66,6 +66,7 @@ next c n {s} k l =
     record {
       others =
           record {
+            none = k .others .none;
             sound = λ M j. k .others .sound M (omega arith);
             setup = k .others .setup;
             before = λ y j. go y j (ℕ-discrete y n);
@@ -102,7 +103,7 @@ module _ (c : Setup) (n : ℕ) (ln : n < c .processes) (inside : n < c .segments
       let b1 = limits m .b1 in
       let less : suc n - 1 ≡ n = omega arith in
       let here : processAt s n .steps + 1 ≤ height (s .setup .leaves) + min (s .setup .segments) (1 + n / s .setup .bits)
-      = rw less at (cost-most (s .setup) (suc n) b1 (one-more m (k .stage))) in
+      = rw less at (cost-most (s .setup) (suc n) (none-closed c n ln (k .others)) b1 (one-more m (k .stage))) in
       omega (arith, k .steps, rw (k .others .setup) at here)
 
   -- a step that is not the last, and the last
@@ -183,7 +184,7 @@ module _ (c : Setup) (n : ℕ) (ln : n < c .processes) (inside : n < c .segments
           let l1 : 1 ≤ c .leaves = leaves-low (c .leaves) (rw (o .setup) at (limits (one c n ln o) .leaves)) in
           rw (o .setup) (omega (arith, mul-le-mul-right (c .segments * c .bits) l1))
 
-module _ (c : Setup) (accepted : setupAnswer c ≡ 0) where
+module _ (c : Setup) (none : c .closed ≡ 0) (accepted : setupAnswer c ≡ 0) where
   pub claims-run : (n : ℕ) → n < c .processes → n < c .segments * c .bits
       → Ready c n (afterList c (claims c n)) × Accepted (fresh c) (claims c n)
   unfolding claims
@@ -191,6 +192,7 @@ module _ (c : Setup) (accepted : setupAnswer c ≡ 0) where
     record {
       others =
           record {
+            none = none;
             sound = λ M _. start-sound c accepted M;
             setup = refl;
             before = λ y l. absurd (omega arith);

@@ -1,5 +1,5 @@
--- Document 02, d): the figure of the dearest claim for a setup, a list of events in which a claim costs so much, and what the call that
--- writes it gives.
+-- Document 02, d): the figure of the dearest claim for a setup that closes none, a list of events in which a claim costs so much, and what
+-- the call that writes it gives.
 use mathlib.Core.List.{List, [], _∷_, _++_}
 use Prim.Native.Nat.{ℕ, zero, suc, _+_, _*_, _-_, _/_, min}
 use lib.Dec.{leb}
@@ -46,7 +46,7 @@ module _ (c : Setup) where
   abbrev pub dearestBytes : List ℕ
   dearestBytes = listBytes dearestEvents
 
--- 18 when the lent buffer is under 4,096 bytes, after 1 to 5.
+-- 18 when the lent buffer is under 4,096 bytes, after 1 to 5. (Where none is closed, 19 and 20 never come.)
 abbrev pub bufferChecks : ℕ → List Check
 bufferChecks room = check answer.smallBuffer (leb 4096 room) ∷ []
 

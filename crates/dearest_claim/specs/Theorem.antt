@@ -1,11 +1,12 @@
--- Document 02, d): what holds of the figure and of the list, for every accepted setup.
+-- Document 02, d): what holds of the figure and of the list, for every accepted setup of four numbers: "the ticket on the dearest claim is
+-- about setups that close none" (document 02, e).
 use mathlib.Core.Path.{_≡_}
 use mathlib.Core.List.{List}
 use Prim.Native.Nat.{ℕ, _≤_, _<_}
 use lib.ListN.{length, replicate}
 use Rattle.machine.specs.Answer.{accepted}
 use Rattle.machine.specs.Lists.{Event, answers}
-use Rattle.machine.specs.Setup.{setupAnswer}
+use Rattle.machine.specs.Setup.{plain, setupAnswer}
 use Rattle.machine.specs.Stage.{working}
 use Rattle.machine.specs.State.{processAt, fresh}
 use Rattle.machine.specs.declared.Process.{Process}
@@ -31,4 +32,4 @@ pub record Dearest (c : Setup) : Type 0 where
   pub short : length (dearestEvents c) ≤ 896
 
 abbrev pub EverySetup : Type 0
-EverySetup = (c : Setup) → setupAnswer c ≡ 0 → Dearest c
+EverySetup = (n l g b : ℕ) → setupAnswer (plain n l g b) ≡ 0 → Dearest (plain n l g b)

@@ -87,13 +87,13 @@ pub fn partial_state(setup: Setup, count: u64) -> State
     requires { ⌜ setupAnswer setup ≡ 0 ⌝ }
     ensures { λ r. ⌜ r ≡ partial setup count ⌝ }
 {
-    let k = limits::names_of(setup);
+    let top = limits::open_names(setup);
     let words = [0u8; 64];
     let counters = partial_counters(setup, count);
     let process = fresh_processes(setup);
     State {
         setup: setup,
-        gate: k as i8,
+        gate: top as i8,
         queued: 0,
         queue: [0u8; 64],
         counters: counters,
@@ -107,12 +107,7 @@ pub fn blank_state() -> State
     ensures { λ r. ⌜ r ≡ blank ⌝ }
 {
     State {
-        setup: Setup {
-            processes: 0,
-            leaves: 0,
-            segments: 0,
-            bits: 0,
-        },
+        setup: limits::setup_of(0, 0, 0, 0, 0),
         gate: 0,
         queued: 0,
         queue: [0u8; 64],

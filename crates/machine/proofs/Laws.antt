@@ -1,6 +1,7 @@
 -- `laws`: every law of specs/Laws.antt holds. Each is proved in the file from which its line is imported.
 -- Assumes nothing.
 pub mod Setup
+pub mod Plain
 pub mod Fresh
 pub mod Partial
 pub mod Answers
@@ -9,9 +10,14 @@ pub mod Unread
 pub mod Room
 pub mod Steps
 pub mod Parts
+use Rattle.machine.proofs.Rules.{refl}
+use Rattle.machine.specs.Closed.{closedBy}
 use Rattle.machine.specs.Laws.{Laws}
+use Rattle.machine.specs.Setup.{plain, names}
 use Rattle.machine.proofs.Facts.Leaves.{height-is, depth-root, depth-left, depth-right}
-use Rattle.machine.proofs.Facts.Words.{first-zero-clear, first-zero-below, set-bit-same, set-bit-other, clr-bit-same, clr-bit-other}
+use Rattle.machine.proofs.Closed.{closed-word, closed-lists, closed-below}
+use Rattle.machine.proofs.Facts.Words.{first-zero-clear, first-zero-open, first-zero-below}
+use Rattle.machine.proofs.Facts.Words.{set-bit-same, set-bit-other, clr-bit-same, clr-bit-other}
 use Rattle.machine.proofs.Laws.Answers.{accepted-in-range, refused-unchanged, state-refused, kind-refused, stranger-refused}
 use Rattle.machine.proofs.Laws.Fresh.{fresh-in-range, blank-out-of-range}
 use Rattle.machine.proofs.Laws.OnePlace.{event-touches, others-unchanged, setup-unchanged}
@@ -19,6 +25,7 @@ use Rattle.machine.proofs.Laws.OnePlace.{unused-process, unused-counter
 use Rattle.machine.proofs.Laws.Partial.{partial-is-setup, one-more-counter, partial-in-range, partial-sized}
 use Rattle.machine.proofs.Laws.Parts.{after-parts, answers-parts, journal-parts, events-parts, bytes-events, bytes-length}
 use Rattle.machine.proofs.Laws.Parts.{journal-length, lent-length}
+use Rattle.machine.proofs.Laws.Plain.{open-all, rank-all, counter-share, numbers-decide}
 use Rattle.machine.proofs.Laws.Room.Gate.{enter-room, await-room}
 use Rattle.machine.proofs.Laws.Room.Getname.{getname-room}
 use Rattle.machine.proofs.Laws.Room.Putname.{putname-room}
@@ -37,11 +44,20 @@ laws =
       left-depth = depth-left;
       right-depth = depth-right;
       answer-clear = first-zero-clear;
+      answer-open = first-zero-open;
       answer-lowest = first-zero-below;
       set-same = set-bit-same;
       set-other = set-bit-other;
       clr-same = clr-bit-same;
       clr-other = clr-bit-other;
+      closed-listed = closed-lists;
+      closed-inside = closed-below;
+      closed-bits = closed-word;
+      none-listed = λ n l g b. unfold closedBy in refl;
+      plain-answer = λ n l g b. numbers-decide (plain n l g b) refl;
+      plain-gate = λ n l g b. let c = plain n l g b in open-all c refl 0 (names c);
+      plain-counter = λ n l g b v e low k. counter-share (plain n l g b) refl e v low k;
+      plain-rank = λ n l g b. rank-all (plain n l g b) refl;
       setup-answer = setup-answers;
       accepted-setup = setup-accepted;
       refused-setup = setup-refused;

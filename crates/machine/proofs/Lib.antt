@@ -1,6 +1,7 @@
 -- What is proved of the definitions: the worked orders, the laws, and the facts that they rest on.
 pub mod Rules
 pub mod Facts
+pub mod Closed
 pub mod Ranges
 pub mod Signed
 pub mod Sized

@@ -11,6 +11,7 @@ use lib.IntN.{ℤ}
 use lib.ListN.{getD, set}
 use lib.Seq.{getD-set-same}
 use Rattle.machine.proofs.Rules.{_≡_, refl, true, false, cond, Bool, _≢_, arith, eqb-true, ltb-false, ltb-true, eqb-false}
+use Rattle.machine.specs.Closed.{closedWord}
 use Rattle.machine.specs.Gate.{above0, inQueue, headGone, enter, await, leave}
 use Rattle.machine.specs.Getname.{claimed, side, outcome, segmentOf, descend, probe, getnameStep}
 use Rattle.machine.specs.Kind.{request, step, release}
@@ -89,7 +90,7 @@ module _ {s : State} {p : ℕ} (v : Valid s) (known : p < s .setup .processes) w
           (k, own-stored (claimed k h))
       go false =
           let r : ℕ = segmentOf (s .setup) h in
-          let k : ClaimStep = outcome (s .setup) r (h .segment) (setFirstZero (s .setup .bits) (wordAt s r) .answer) in
+          let k : ClaimStep = outcome (s .setup) r (h .segment) (setFirstZero (s .setup .bits) (closedWord (s .setup) r) (wordAt s r) .answer) in
           (k, own-stored (claimed k h))
 
   climb-became : h .stage ≡ putname → h .name ≡ none → 1 < h .node → To step (climb s p)

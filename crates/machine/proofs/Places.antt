@@ -20,4 +20,4 @@ module _ {c : Setup} {h : Process} (k : ProcessRanges c h) where
   leaf-segment e = digits-lt (omega (arith, k .node)) (k .segment)
 
   pub name-segment : 1 ≤ c .bits → (h .name ≡ none → ⊥) → h .name / c .bits < c .leaves * c .segments
-  name-segment b1 d = div-lt-iff-lt-mul {k = c .bits} {x = h .name} {y = c .leaves * c .segments} b1 .1 (k .name d)
+  name-segment b1 d = div-lt-iff-lt-mul {k = c .bits} {x = h .name} {y = c .leaves * c .segments} b1 .1 (k .name d .below)

@@ -4,7 +4,7 @@
 --     join-queue, advance-queue                              one more at the queue's end; its head gone
 -- Assumes nothing.
 use mathlib.Core.List.{List}
-use Prim.Native.Nat.{ℕ, suc, _+_, _*_, _-_, _^_, _≤_, _<_}
+use Prim.Native.Nat.{ℕ, suc, _+_, _*_, _-_, _≤_, _<_}
 use native.Mathlib.Decide.{decLt}
 use lib.Dec.{eqb}
 use lib.IntN.{ℤ}
@@ -12,8 +12,8 @@ use lib.ListN.{length, getD, set, List·getD-eq-default}
 use lib.Seq.{getD-set-same}
 use Rattle.machine.proofs.Rules.{_≡_, refl, true, cond, arith, eqb-true}
 use Rattle.machine.specs.Gate.{joined, movedUp, headGone}
-use Rattle.machine.specs.Range.{gateInRange, ProcessRanges}
-use Rattle.machine.specs.Setup.{names}
+use Rattle.machine.specs.Range.{gateInRange, OpenName, ProcessRanges}
+use Rattle.machine.specs.Setup.{openNames}
 use Rattle.machine.specs.Stage.{exhausted}
 use Rattle.machine.specs.State.{none, noProcess, freshProcess, withStage, withNode, withName, withReturns, processAt}
 use Rattle.machine.specs.State.{withProcess, withCounters, withCounter, withWord, withGate, withQueue, rebuilt, freshCounter}
@@ -22,7 +22,7 @@ use Rattle.machine.specs.declared.Setup.{Setup}
 use Rattle.machine.specs.declared.State.{State}
 use Rattle.machine.proofs.Facts.Tests.{by-cond}
 use Rattle.machine.proofs.Facts.Lists.{getD-set-by, getD-moved}
-use Rattle.machine.proofs.Ranges.{Limits, QueueRanges, Ranges}
+use Rattle.machine.proofs.Ranges.{Limits, QueueRanges, WordRanges, Ranges}
 use Rattle.machine.proofs.Facts.Leaves.{leaves-low}
 
 pub fresh-process : {c : Setup} → Limits c → ProcessRanges c freshProcess
@@ -44,7 +44,7 @@ pub new-node : {c : Setup} {h : Process} (v : ℕ) → 1 ≤ v → v < 2 * c .le
 new-node v low high k =
     record { stage = k .stage; node1 = low; node = high; segment = k .segment; name = k .name; shown = k .shown }
 
-pub new-name : {c : Setup} {h : Process} (m : ℕ) → ((m ≡ none → ⊥) → m < names c) → ProcessRanges c h
+pub new-name : {c : Setup} {h : Process} (m : ℕ) → ((m ≡ none → ⊥) → OpenName c m) → ProcessRanges c h
     → ProcessRanges c (withName m h)
 new-name m e k =
     record { stage = k .stage; node1 = k .node1; node = k .node; segment = k .segment; name = e; shown = k .shown }
@@ -59,14 +59,14 @@ module _ (s : State) (k : Ranges s) where
 
   -- a state with other parts, each in range
   rebuilt-ranges : {a : ℤ} {n : ℕ} {q cs ws : List ℕ} {ps : List Process}
-      → gateInRange (names c) a ≡ true
+      → gateInRange (openNames c) a ≡ true
       → QueueRanges (c .processes) n q
       → ((v : ℕ) → 0 < v → v < c .leaves → getD cs v 0 ≤ freshCounter c v)
-      → ((r : ℕ) → r < c .leaves * c .segments → getD ws r 0 < 2 ^ c .bits)
+      → ((r : ℕ) → r < c .leaves * c .segments → WordRanges c r (getD ws r 0))
       → ((p : ℕ) → p < c .processes → ProcessRanges c (getD ps p noProcess))
       → Ranges (rebuilt a n q cs ws ps s)
   rebuilt-ranges ka kq kc kw kp =
-      record { limits = k .limits; gate = ka; queue = kq; counters = kc; words = kw; process = kp }
+      record { limits = k .limits; closed = k .closed; gate = ka; queue = kq; counters = kc; words = kw; process = kp }
 
   pub store-process : (p : ℕ) (h : Process) → ProcessRanges c h → Ranges (withProcess p h s)
   store-process p h kh =
@@ -85,13 +85,13 @@ module _ (s : State) (k : Ranges s) where
       set-counters (set (s .counters) v n)
       (λ u low l. getD-set-by (λ (x : ℕ). x ≤ freshCounter c u) (s .counters) v n u 0 (λ e. rw e kn) (k .counters u low l))
 
-  pub store-word : (r w : ℕ) → w < 2 ^ c .bits → Ranges (withWord r w s)
+  pub store-word : (r w : ℕ) → WordRanges c r w → Ranges (withWord r w s)
   store-word r w kw =
       rebuilt-ranges (k .gate) (k .queue) (k .counters)
-      (λ q l. getD-set-by (λ (x : ℕ). x < 2 ^ c .bits) (s .words) r w q 0 (λ _. kw) (k .words q l))
+      (λ q l. getD-set-by (WordRanges c q) (s .words) r w q 0 (λ e. rw e kw) (k .words q l))
       (k .process)
 
-  pub set-gate : (a : ℤ) → gateInRange (names c) a ≡ true → Ranges (withGate a s)
+  pub set-gate : (a : ℤ) → gateInRange (openNames c) a ≡ true → Ranges (withGate a s)
   set-gate a ka = rebuilt-ranges ka (k .queue) (k .counters) (k .words) (k .process)
 
   set-queue : (n : ℕ) (q : List ℕ) → QueueRanges (c .processes) n q → Ranges (withQueue n q s)

@@ -75,3 +75,11 @@ noRoom = 17
 -- Document 02, d): the buffer is under 4,096 bytes
 abbrev pub smallBuffer : ℕ
 smallBuffer = 18
+
+-- Document 02, e): a closed number is not below k
+abbrev pub closedName : ℕ
+closedName = 19
+
+-- Document 02, e): no pad stays open
+abbrev pub noneOpen : ℕ
+noneOpen = 20

@@ -148,7 +148,7 @@ pub record Controls : Type 0 where
   pub setups : map setup badSetups ≡ refusedSetups
   pub partial-setups : map (λ c. partialSetup c 9) badSetups ≡ refusedSetups
   -- of several clear bits the lowest is set
-  pub lowest : setFirstZero 3 0 ≡ record { answer = 0; word = 1 }
+  pub lowest : setFirstZero 3 0 0 ≡ record { answer = 0; word = 1 }
   -- counters k / 2^(d+1), by node
   pub counters : fresh (plain 64 16 2 2) .counters ≡ 0 ∷ 32 ∷ 16 ∷ 16 ∷ 8 ∷ 8 ∷ 8 ∷ 8 ∷ 4 ∷ 4 ∷ 4 ∷ 4 ∷ 4 ∷ 4 ∷ 4 ∷ 4 ∷ []
   -- fresh: 0, 1, 0, 255, 0, 0; and 0 where the setup leaves a place unused

@@ -3,6 +3,7 @@
 use mathlib.Core.Bool.{cond}
 use Prim.Native.Nat.{ℕ, _+_, _*_, _-_}
 use lib.Dec.{ltb}
+use Rattle.machine.specs.Closed.{closedWord}
 use Rattle.machine.specs.Operations.{setFirstZero, boundedDecrement}
 use Rattle.machine.specs.Stage.{working, exhausted}
 use Rattle.machine.specs.State.{withStage, withNode, withSegment, withName, withSteps}
@@ -50,7 +51,7 @@ unfoldable pub probe : State → ℕ → State
 probe s p =
     let h = processAt s p in
     let r : ℕ = segmentOf (s .setup) h in
-    let w = setFirstZero (s .setup .bits) (wordAt s r) in
+    let w = setFirstZero (s .setup .bits) (closedWord (s .setup) r) (wordAt s r) in
     update p (claimed (outcome (s .setup) r (h .segment) (w .answer))) (withWord r (w .word) s)
 
 unfoldable pub getnameStep : State → ℕ → State

@@ -1,10 +1,12 @@
 -- What holds of the machine: of every setup, state, event and list. One law for each field, and `laws` in proofs/Laws.antt proves them.
 use mathlib.Core.Path.{_≡_}
 use mathlib.Core.Logic.{_≢_}
-use mathlib.Core.Bool.{true, false}
-use mathlib.Core.List.{List, _++_}
-use Prim.Native.Nat.{ℕ, suc, _+_, _-_, _*_, _%_, _^_, _≤_, _<_}
+use mathlib.Core.Bool.{true, false, not}
+use mathlib.Core.List.{List, [], _++_}
+use Prim.Native.Nat.{ℕ, suc, _+_, _-_, _*_, _/_, _%_, _^_, _≤_, _<_}
+use lib.Dec.{ltb}
 use lib.ListN.{length, getD}
+use Rattle.machine.specs.Closed.{closedBy, lists, listsBelow, isOpen, rank, closedWord}
 use Rattle.machine.specs.Event.{event}
 use Rattle.machine.specs.Gate.{headGone, enter, await}
 use Rattle.machine.specs.Getname.{getnameStep}
@@ -13,7 +15,7 @@ use Rattle.machine.specs.Operations.{bit, firstZero, clrBit}
 use Rattle.machine.specs.Putname.{putnameStep}
 use Rattle.machine.specs.Range.{inRange}
 use Rattle.machine.specs.Room.{enterRoom, getnameRoom, putnameRoom}
-use Rattle.machine.specs.Setup.{isLeaves, setupAnswer, height}
+use Rattle.machine.specs.Setup.{given, plain, names, openNames, isLeaves, numberAnswer, setupAnswer, height}
 use Rattle.machine.specs.State.{done, depth, processAt, counterAt, wordAt, withCounter, freshCounter}
 use Rattle.machine.specs.State.{fresh, blank, setup, partial, partialSetup, Sized}
 use Rattle.machine.specs.Touches.{Touches, Alike, Same}
@@ -27,15 +29,29 @@ pub record Laws : Type 0 where
   pub root-depth : depth 1 ≡ 0
   pub left-depth : (v : ℕ) → 0 < v → v < 16 → depth (2 * v) ≡ depth v + 1
   pub right-depth : (v : ℕ) → 0 < v → v < 16 → depth (2 * v + 1) ≡ depth v + 1
-  -- set_first_zero answers the index of a clear bit, and every bit below it is set
-  pub answer-clear : (b w : ℕ) → firstZero b w < b → bit w (firstZero b w) ≡ 0
-  pub answer-lowest : (b w i : ℕ) → i < firstZero b w → bit w i ≡ 1
+  -- set_first_zero answers the index of a clear bit that is not closed, and every such bit below it is set
+  pub answer-clear : (b x w : ℕ) → firstZero b x w < b → bit w (firstZero b x w) ≡ 0
+  pub answer-open : (b x w : ℕ) → firstZero b x w < b → bit x (firstZero b x w) ≡ 0
+  pub answer-lowest : (b x w i : ℕ) → i < firstZero b x w → bit x i ≡ 0 → bit w i ≡ 1
   -- it sets that bit and changes no other
   pub set-same : (w i : ℕ) → bit w i ≡ 0 → bit (w + 2 ^ i) i ≡ 1
   pub set-other : (w i j : ℕ) → bit w i ≡ 0 → j ≢ i → bit (w + 2 ^ i) j ≡ bit w j
   -- clr_bit clears its bit and changes no other
   pub clr-same : (w i : ℕ) → bit (clrBit w i) i ≡ 0
   pub clr-other : (w i j : ℕ) → j ≢ i → bit (clrBit w i) j ≡ bit w j
+  -- a name is closed exactly when the setup's list has it; 19 comes exactly when the list has one that is not below k; the closed bits
+  -- of a segment word are those of its names
+  pub closed-listed : (n l g b : ℕ) (ps : List ℕ) (p : ℕ) → isOpen (given n l g b ps) p ≡ not (lists ps p)
+  pub closed-inside : (k : ℕ) (ps : List ℕ) → ltb (closedBy 0 ps) (2 ^ k) ≡ listsBelow k ps
+  pub closed-bits : (c : Setup) (r i : ℕ) → i < c .bits → bit (closedWord c r) i ≡ bit (c .closed) (r * c .bits + i)
+  -- a setup with an empty list is that of the four numbers, where 19 and 20 never come; with none closed the gate word starts at k, a
+  -- counter at k / 2^(d+1), and the open names below a name are all below it
+  pub none-listed : (n l g b : ℕ) → given n l g b [] ≡ plain n l g b
+  pub plain-answer : (n l g b : ℕ) → setupAnswer (plain n l g b) ≡ numberAnswer (plain n l g b)
+  pub plain-gate : (n l g b : ℕ) → openNames (plain n l g b) ≡ names (plain n l g b)
+  pub plain-counter : (n l g b v : ℕ) → isLeaves l ≡ true → 0 < v → v < l
+      → freshCounter (plain n l g b) v ≡ names (plain n l g b) / 2 ^ (depth v + 1)
+  pub plain-rank : (n l g b p : ℕ) → rank (plain n l g b) p ≡ p
   -- a setup answers 0 or its refusal's number; it gives the fresh state or, refused, the blank one
   pub setup-answer : (c : Setup) → setup c .answer ≡ setupAnswer c
   pub accepted-setup : (c : Setup) → setupAnswer c ≡ 0 → setup c ≡ done 0 (fresh c)

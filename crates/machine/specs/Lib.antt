@@ -4,8 +4,9 @@ pub mod Below
 pub mod Check
 pub mod Answer
 pub mod Filled
-pub mod Setup
 pub mod Operations
+pub mod Closed
+pub mod Setup
 pub mod Stage
 pub mod Kind
 pub mod State

@@ -4,12 +4,12 @@ use Prim.Native.Nat.{ℕ, _/_, _%_}
 use lib.Dec.{eqb, ltb}
 use lib.IntN.{ℤ, pos, negsuc}
 use Rattle.machine.specs.Gate.{above0}
-use Rattle.machine.specs.Setup.{names}
+use Rattle.machine.specs.Setup.{openNames}
 use Rattle.machine.specs.State.{none, figure, processAt, counterAt, freshCounter}
 use Rattle.machine.specs.declared.Process.{Process}
 use Rattle.machine.specs.declared.State.{State}
 
--- A falls by 1 and stays at -64 or above; it rises by 1 and stays at k or below
+-- A falls by 1 and stays at -64 or above; it rises by 1 and stays at k, the number of open names, or below
 unfoldable pub canFall : ℤ → Bool
 canFall (pos n) = true
 canFall (negsuc n) = ltb n 63
@@ -40,5 +40,5 @@ climbRoom s p =
 abbrev pub putnameRoom : State → ℕ → Bool
 putnameRoom s p =
     cond (eqb (processAt s p .name) none)
-    (cond (ltb 1 (processAt s p .node)) (climbRoom s p) (canRise (names (s .setup)) (s .gate)))
+    (cond (ltb 1 (processAt s p .node)) (climbRoom s p) (canRise (openNames (s .setup)) (s .gate)))
     (hasRoom (processAt s p))

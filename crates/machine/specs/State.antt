@@ -4,14 +4,15 @@
 use mathlib.Core.Path.{_≡_}
 use mathlib.Core.Bool.{cond, _&&_}
 use mathlib.Core.List.{List}
-use Prim.Native.Nat.{ℕ, _+_, _-_, _/_, _^_}
+use Prim.Native.Nat.{ℕ, _+_, _*_, _-_, _/_, _^_}
 use lib.Dec.{leb, ltb}
 use lib.IntN.{ℤ, pos}
 use lib.ListN.{length, getD, set, replicate}
 use Rattle.machine.specs.Below.{tabulate}
 use Rattle.machine.specs.Check.{checked}
 use Rattle.machine.specs.Answer.{accepted}
-use Rattle.machine.specs.Setup.{plain, names, setupChecks, log2}
+use Rattle.machine.specs.Closed.{openIn}
+use Rattle.machine.specs.Setup.{plain, openNames, setupChecks, log2}
 use Rattle.machine.specs.Stage.{remainder}
 use Rattle.machine.specs.declared.Process.{Process}
 use Rattle.machine.specs.declared.Setup.{Setup}
@@ -111,9 +112,23 @@ update p f s = withProcess p (f (processAt s p)) s
 abbrev pub depth : ℕ → ℕ
 depth v = log2 v
 
--- A counter's fresh value k / 2^(d+1), where d is the node's depth.
+-- how many of l leaves lie under node u, and the first of them
+unfoldable pub width : ℕ → ℕ → ℕ
+width l u = l / 2 ^ depth u
+
+unfoldable pub firstLeaf : ℕ → ℕ → ℕ
+firstLeaf l u = (u - 2 ^ depth u) * width l u
+
+-- the first name under node u, and how many lie there: g·b for each leaf
+unfoldable pub nodeFirst : Setup → ℕ → ℕ
+nodeFirst c u = firstLeaf (c .leaves) u * (c .segments * c .bits)
+
+unfoldable pub nodeCount : Setup → ℕ → ℕ
+nodeCount c u = width (c .leaves) u * (c .segments * c .bits)
+
+-- "Each counter starts at the number of open pads under its left child" (document 02, e): its fresh value.
 abbrev pub freshCounter : Setup → ℕ → ℕ
-freshCounter c v = names c / 2 ^ (depth v + 1)
+freshCounter c v = openIn c (nodeFirst c (2 * v)) (nodeCount c (2 * v))
 
 -- Nodes below L carry a counter (nodes are 1 to 2L - 1); places that L leaves unused are fresh 0.
 unfoldable pub freshCounterAt : Setup → ℕ → ℕ
@@ -123,12 +138,12 @@ freshCounterAt c v = cond (ltb 0 v && ltb v (c .leaves)) (freshCounter c v) 0
 unfoldable pub freshProcessAt : Setup → ℕ → Process
 freshProcessAt c p = cond (ltb p (c .processes)) freshProcess noProcess
 
--- Gate word A fresh k; the queue fresh empty; segment words (row words) fresh 0.
+-- Gate word A starts "at all open pads" (document 02, e); the queue fresh empty; segment words (row words) fresh 0.
 unfoldable pub fresh : Setup → State
 fresh c =
     record {
       setup = c;
-      gate = pos (names c);
+      gate = pos (openNames c);
       queued = 0;
       queue = replicate 64 0;
       counters = tabulate 16 (freshCounterAt c);

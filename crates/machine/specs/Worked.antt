@@ -1,5 +1,5 @@
 -- Document 01's table of worked orders, P1 to P11; `worked` in proofs/Worked.antt computes each. In P11 lines eight and nine end in 2
--- (document 02, b).
+-- (document 02, b). Nothing is closed (document 02, e).
 use mathlib.Core.Path.{_≡_}
 use mathlib.Core.List.{List, _++_}
 use Prim.Native.Nat.{ℕ}
@@ -27,8 +27,8 @@ p11-events =
 
 pub record Worked : Type 0 where
   -- first clear, b = 3: word 5 answers 1 and becomes 7; word 7 answers 3 and stays
-  pub p1 : setFirstZero 3 5 ≡ applied 1 7
-  pub p2 : setFirstZero 3 7 ≡ applied 3 7
+  pub p1 : setFirstZero 3 0 5 ≡ applied 1 7
+  pub p2 : setFirstZero 3 0 7 ≡ applied 3 7
   -- bounded decrement of 0 answers 0, leaves 0; of 2 answers 2, leaves 1
   pub p3 : boundedDecrement 0 ≡ applied 0 0
   pub p4 : boundedDecrement 2 ≡ applied 2 1

@@ -36,3 +36,7 @@ pub const TOO_LONG: u8 = 16; // document 02, a): the file would pass 32,768 byte
 pub const NO_ROOM: u8 = 17; // document 02, a): the buffer is shorter than the file
 
 pub const SMALL_BUFFER: u8 = 18; // document 02, d): the buffer is under 4,096 bytes
+
+pub const CLOSED_NAME: u8 = 19; // document 02, e): a closed number is not below k
+
+pub const NONE_OPEN: u8 = 20; // document 02, e): no pad stays open

@@ -7,13 +7,15 @@ pub mod stage;
 // The name of a process that has none.
 pub const NO_NAME: u8 = 255;
 
-// What a setup is given: processes (document 01: handsets) N, leaves L, segments (rows) in a leaf g, bits in a segment b.
+// What a setup is given: processes (document 01: handsets) N, leaves L, segments (rows) in a leaf g, bits in a segment b, and which
+// names are closed (document 02, e: closed pads): bit p of `closed` is 1 where name p is.
 #[repr(C)]
 pub struct Setup {
     pub processes: u8,
     pub leaves: u8,
     pub segments: u8,
     pub bits: u8,
+    pub closed: u64,
 }
 
 // One process (document 01: handset). `name` (pad) is 255 for none; since its last request, `steps` counts its getname steps (spent, the

@@ -11,7 +11,7 @@ use Rattle.machine.specs.Gate.{above0, among, headGone, enter, await, leave}
 use Rattle.machine.specs.Getname.{segmentOf, descend, probe, getnameStep}
 use Rattle.machine.specs.Putname.{giveBack, climb, putnameStep}
 use Rattle.machine.specs.Room.{canFall, canRise, hasRoom, climbRoom, putnameRoom}
-use Rattle.machine.specs.Setup.{names}
+use Rattle.machine.specs.Setup.{openNames}
 use Rattle.machine.specs.Stage.{remainder, entry, working, putname}
 use Rattle.machine.specs.State.{done, none, noProcess, freshProcess, withStage, withNode, processAt, counterAt}
 use Rattle.machine.specs.State.{wordAt, freshCounter, withProcess, withCounter, withWord, rebuilt, Sized}
@@ -86,12 +86,12 @@ module _ (s : State) (z : Sized s) (k : Ranges s) (p : ℕ) (kp : p < s .setup .
       go false false e f = simp (e, f) (ap (done 15) (sym (word-self (segmentOf c h))))
 
   -- stage 5, by the tests in their order: a name; above node 1; from the left; and the room
-  leave-at : cond (canRise (names c) (s .gate)) (done 0 (leave s p)) (done 15 s) ≡ doneAt Root s p
+  leave-at : cond (canRise (openNames c) (s .gate)) (done 0 (leave s p)) (done 15 s) ≡ doneAt Root s p
   unfolding doneAt leave headGone departed departedQueue
-  leave-at = go (canRise (names c) (s .gate)) refl
+  leave-at = go (canRise (openNames c) (s .gate)) refl
     where
-      go : (t : Bool) → canRise (names c) (s .gate) ≡ t
-          → cond (canRise (names c) (s .gate)) (done 0 (leave s p)) (done 15 s) ≡ doneAt Root s p
+      go : (t : Bool) → canRise (openNames c) (s .gate) ≡ t
+          → cond (canRise (openNames c) (s .gate)) (done 0 (leave s p)) (done 15 s) ≡ doneAt Root s p
       go true e = simp e
       go false e = simp e (ap (done 15) (sym self))
 

@@ -1,22 +1,25 @@
--- The rules of words of eight bits, each computed once over all of them, and the law that the test gives.
---     zeros-is      the trailing zeros of a word's complement, within b bits, are its first clear index
---     shifted-is    1 shifted by less than eight
---     set-below     setting the first clear bit keeps the word a byte
+-- The rules of words of eight bits: the trailing zeros computed once over all of them, with the law that the test gives, and a closed bit
+-- passed over as a set one is.
+--     zeros-is      the trailing zeros of the complement, within b bits, are the first index that is clear and not closed
+--     set-below     setting that bit keeps the word a byte
 -- Assumes nothing.
-use Prim.Native.Nat.{ℕ, _+_, _*_, _-_, _%_, _^_, _<_}
+use Prim.Native.Nat.{ℕ, zero, suc, _+_, _-_, _/_, _%_, _^_, _≤_, _<_, max}
+use native.Mathlib.Nat.{zero-max, max-zero, suc-max-suc, max-le}
+use lib.Bits.{bitOr, or-step, or-lt}
 use lib.Count.{trailingZeros}
 use lib.Dec.{ltb, eqb}
-use Rattle.machine.proofs.Rules.{_≡_, refl, true, cond, Bool, lt-ltb, ltb-true, eqb-true}
+use Rattle.machine.proofs.Rules.{_≡_, _∙_, sym, refl, true, cond, Bool, _&&_, and-true, arith, ne-eqb, eqb-true}
 use Rattle.machine.specs.Below.{allBelow}
 use Rattle.machine.specs.Operations.{firstZero}
 use Rattle.machine.proofs.Facts.Below.{all-at}
+use Rattle.machine.proofs.Facts.Words.{first-zero-clear, set-bit-lt}
 
 -- what first_zero returns
 abbrev pub zeros : ℕ → ℕ → ℕ
 zeros b w = cond (ltb (trailingZeros 8 (255 - w)) b) (trailingZeros 8 (255 - w)) b
 
 abbrev right : ℕ → ℕ → Bool
-right b w = eqb (zeros b w) (firstZero b w)
+right b w = eqb (zeros b w) (firstZero b 0 w)
 
 abbrev rights : ℕ → Bool
 rights b = allBelow 256 (right b)
@@ -25,30 +28,33 @@ all-right : allBelow 9 rights ≡ true
 unfolding allBelow firstZero trailingZeros
 all-right = refl
 
-pub zeros-is : (b w : ℕ) → b < 9 → w < 256 → zeros b w ≡ firstZero b w
-zeros-is b w k l = eqb-true (zeros b w) (firstZero b w) (all-at 256 (right b) (all-at 9 rights all-right b k) w l)
+-- the lowest bits of both words together, and the bits above them
+module _ (w x : ℕ) where
+  low-one : max (w % 2) (x % 2) ≤ 1
+  low-one = max-le (omega arith) (omega arith)
 
-abbrev shifted : ℕ → Bool
-shifted i = eqb ((1 * 2 ^ i) % 256) (2 ^ i)
+  or-low : bitOr w x % 2 ≡ max (w % 2) (x % 2)
+  or-low = omega (arith, or-step w x, low-one)
 
-all-shifted : allBelow 8 shifted ≡ true
-unfolding allBelow
-all-shifted = refl
+  or-rest : bitOr w x / 2 ≡ bitOr (w / 2) (x / 2)
+  or-rest = omega (arith, or-step w x, low-one)
 
-pub shifted-is : (i : ℕ) → i < 8 → (1 * 2 ^ i) % 256 ≡ 2 ^ i
-shifted-is i k = eqb-true ((1 * 2 ^ i) % 256) (2 ^ i) (all-at 8 shifted all-shifted i k)
+neither : (a b : ℕ) → eqb (max a b) 0 ≡ (eqb a 0 && eqb b 0)
+neither zero b = rw (zero-max b)
+neither (suc a) zero = rw (max-zero (suc a), and-true)
+neither (suc a) (suc b) = rw (suc-max-suc a b, ne-eqb (suc (max a b)) 0 (λ q. omega arith), ne-eqb (suc a) 0 (λ q. omega arith))
 
-abbrev isByte : ℕ → ℕ → Bool
-isByte b w = cond (ltb (firstZero b w) b) (ltb (w + 2 ^ firstZero b w) 256) true
+-- a closed bit is passed over as a set one is
+first-zero-or : (b x w : ℕ) → firstZero b x w ≡ firstZero b 0 (bitOr w x)
+unfolding firstZero
+first-zero-or zero x w = refl
+first-zero-or (suc b) x w = rw (or-low w x, or-rest w x, neither (w % 2) (x % 2), and-true, first-zero-or b (x / 2) (w / 2))
 
-abbrev bytes : ℕ → Bool
-bytes b = allBelow 256 (isByte b)
+pub zeros-is : (b x w : ℕ) → b < 9 → x < 256 → w < 256 → zeros b (bitOr w x) ≡ firstZero b x w
+zeros-is b x w k m l =
+    let y : ℕ = bitOr w x in
+    eqb-true (zeros b y) (firstZero b 0 y) (all-at 256 (right b) (all-at 9 rights all-right b k) y (or-lt 8 w x l m))
+    ∙ sym (first-zero-or b x w)
 
-all-bytes : allBelow 9 bytes ≡ true
-unfolding allBelow firstZero
-all-bytes = refl
-
-pub set-below : (b w : ℕ) → b < 9 → w < 256 → firstZero b w < b → w + 2 ^ firstZero b w < 256
-set-below b w k l h =
-    let t : isByte b w ≡ true = all-at 256 (isByte b) (all-at 9 bytes all-bytes b k) w l in
-    ltb-true (w + 2 ^ firstZero b w) 256 (rw (lt-ltb (firstZero b w) b h) at t)
+pub set-below : (b x w : ℕ) → b < 9 → w < 256 → firstZero b x w < b → w + 2 ^ firstZero b x w < 256
+set-below b x w k l h = set-bit-lt 8 w (firstZero b x w) l (omega arith) (first-zero-clear b x w h)

@@ -4,6 +4,7 @@ use mathlib.Core.Bool.{cond, _&&_}
 use Prim.Native.Nat.{ℕ, _+_}
 use lib.Dec.{ltb}
 use Rattle.machine.specs.Answer.{accepted, brokenState}
+use Rattle.machine.specs.Closed.{closedWord}
 use Rattle.machine.specs.Getname.{claimed, side, outcome}
 use Rattle.machine.specs.Operations.{setFirstZero, boundedDecrement, clrBit}
 use Rattle.machine.specs.Putname.{returned}
@@ -24,7 +25,7 @@ descended h c =
 
 unfoldable pub probed : Setup → ℕ → Process → ℕ → Moved
 probed c r h w =
-    let op = setFirstZero (c .bits) w in
+    let op = setFirstZero (c .bits) (closedWord c r) w in
     cond (hasRoom h) (moved accepted (claimed (outcome c r (h .segment) (op .answer)) h) (op .word)) (moved brokenState h w)
 
 -- stage 5 with a name, whose bit is number i of segment word w; from a left child to its parent u with counter n

@@ -8,7 +8,7 @@ use lib.ListN.{getD}
 use Rattle.machine.specs.Answer as answer
 use Rattle.machine.specs.Getname.{segmentOf}
 use Rattle.machine.specs.Range.{ProcessRanges}
-use Rattle.machine.specs.Setup.{names, setupAnswer}
+use Rattle.machine.specs.Setup.{openNames, setupAnswer}
 use Rattle.machine.specs.Stage.{remainder, entry, working, putname}
 use Rattle.machine.specs.State.{done, none, freshProcess, withStage, withNode, processAt}
 use Rattle.machine.specs.State.{counterAt, wordAt, withGate, withQueue, withCounter, withWord, withProcess}
@@ -84,6 +84,6 @@ doneAt (Parent u) s p =
     let m = climbed (s .setup) u (processAt s p) (counterAt s u) in
     done (m .answer) (withProcess p (m .process) (withCounter u (m .word) s))
 doneAt Root s p =
-    let m = departed (names (s .setup)) (processAt s p) (s .gate) (s .queued) in
-    let q = departedQueue (names (s .setup)) (s .gate) (s .queued) (s .queue) in
+    let m = departed (openNames (s .setup)) (processAt s p) (s .gate) (s .queued) in
+    let q = departedQueue (openNames (s .setup)) (s .gate) (s .queued) (s .queue) in
     done (m .answer) (withProcess p (m .process) (withQueue (m .queued) q (withGate (m .gate) s)))

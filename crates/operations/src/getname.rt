@@ -1,5 +1,6 @@
 // Stage 3: one getname step at a node or at a leaf.
 use crate::words;
+use fresh::closed;
 use machine::ClaimStep;
 use machine::Process;
 use machine::Setup;
@@ -107,7 +108,8 @@ pub fn probe(h: Process, w: u8, r: u8, setup: Setup) -> Moved
     ensures { λ m. ⌜ m ≡ probed setup r h w ⌝ }
 {
     if counts::has_room(h) {
-        let op = words::set_first_zero(setup.bits, w);
+        let shut = closed::closed_word(setup, r);
+        let op = words::set_first_zero(setup.bits, shut, w);
         let step = outcome_of(setup, r, h.segment, op.answer);
         let x = claim(step, h);
         return Moved {

@@ -47,7 +47,7 @@ pub fn give_back(h: Process, w: u8, i: u8) -> Moved
 
 // Up from a left child to its parent u, whose counter c rises.
 pub fn climb(h: Process, u: u8, c: u8, setup: Setup) -> Moved
-    requires { ⌜ setupAnswer setup ≡ 0 ⌝ }
+    requires { ⌜ (setupAnswer setup ≡ 0) × ((0 < u) × (u < setup .leaves)) ⌝ }
     ensures { λ r. ⌜ r ≡ climbed setup u h c ⌝ }
 {
     if c < counter::fresh_counter(setup, u) {

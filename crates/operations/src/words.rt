@@ -12,21 +12,22 @@ fn power(i: u8) -> u8
     1u8 << i
 }
 
-// The index of the lowest clear bit among the b bits of w, or b where none is clear: the trailing zeros of its complement.
-fn first_zero(b: u8, w: u8) -> u8
+// The index of the lowest bit among b that is clear in w and not closed in x, or b where there is none: the trailing zeros of the
+// complement.
+fn first_zero(b: u8, x: u8, w: u8) -> u8
     requires { ⌜ b ≤ 8 ⌝ }
-    ensures { λ r. ⌜ r ≡ firstZero b w ⌝ }
+    ensures { λ r. ⌜ r ≡ firstZero b x w ⌝ }
 {
-    let m = u8::trailing_zeros(!w) as u8;
+    let m = u8::trailing_zeros(!(w | x)) as u8;
     if m < b { m } else { b }
 }
 
-// The lowest clear bit is set and its index is the answer; if none is clear, the word stays and the answer is b.
-pub fn set_first_zero(b: u8, w: u8) -> Applied
+// The lowest clear bit that is not closed in x is set and its index is the answer; if there is none, the word stays and the answer is b.
+pub fn set_first_zero(b: u8, x: u8, w: u8) -> Applied
     requires { ⌜ b ≤ 8 ⌝ }
-    ensures { λ r. ⌜ r ≡ setFirstZero b w ⌝ }
+    ensures { λ r. ⌜ r ≡ setFirstZero b x w ⌝ }
 {
-    let m = first_zero(b, w);
+    let m = first_zero(b, x, w);
     if m < b {
         let p = power(m);
         return Applied {

@@ -2,4 +2,5 @@
 pub mod Bounds
 pub mod GateWord
 pub mod Masks
+pub mod Shut
 pub mod Verdict

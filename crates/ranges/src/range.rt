@@ -1,20 +1,25 @@
 // Whether each number of a state is in its range.
+use fresh::closed;
 use fresh::counter;
 use fresh::limits;
+use machine::NO_NAME;
 use machine::Process;
 use machine::Setup;
 use machine::State;
 use machine::answer;
 use machine::counts;
 use machine::stage;
+ghost use mathlib.Core.Bool.{_||_};
 ghost use mathlib.Core.Path.{_≡_};
-ghost use Prim.Native.Nat.{_-_, _*_, _^_, _≤_};
-ghost use lib.Dec.{eqb};
+ghost use Prim.Native.Nat.{_-_, _*_, _^_, _≤_, _<_};
+ghost use lib.Dec.{eqb, ltb};
 ghost use lib.ListN.{getD};
 ghost use Rattle.machine.specs.Below.{allBelow};
 ghost use Rattle.machine.specs.Check.{allOf};
-ghost use Rattle.machine.specs.Range.{gateInRange, placeTest, counterTest, wordTest, nameTest, processTest, entryTests, inRange};
+ghost use Rattle.machine.specs.Range.{gateInRange, placeTest, counterTest, wordTest, closedTest, nameTest};
+ghost use Rattle.machine.specs.Range.{processTest, entryTests, inRange};
 ghost use Rattle.machine.specs.Setup.{setupAnswer};
+ghost use Rattle.machine.specs.State.{none};
 ghost use Rattle.ranges.specs.Tests.{Greatest, pastTest};
 
 // The greatest word of each number of bits.
@@ -27,7 +32,7 @@ fn mask(b: u8) -> u8
     MASKS[b as usize]
 }
 
-// The gate word, -64 to k.
+// The gate word, -64 to k, the number of open names.
 fn gate_in_range(k: u8, a: i8) -> bool
     requires { ⌜ k ≤ 64 ⌝ }
     ensures { λ r. ⌜ r ≡ gateInRange k a ⌝ }
@@ -88,7 +93,7 @@ fn queue_in_range(queue: &[u8; 64], m: u8, n: u8) -> bool
 
 // A counter of at most its fresh value; node 0 is none.
 fn counter_in_range(n: u8, setup: Setup, v: u8) -> bool
-    requires { ⌜ setupAnswer setup ≡ 0 ⌝ }
+    requires { ⌜ (setupAnswer setup ≡ 0) × (v < setup .leaves) ⌝ }
     ensures { λ r. ⌜ r ≡ counterTest setup v n ⌝ }
 {
     if v == 0 {
@@ -124,11 +129,47 @@ fn words_in_range(words: &[u8; 64], setup: Setup) -> bool
     greatest(words, setup.leaves * setup.segments) <= full
 }
 
+// The segment words in use have no closed bit set.
+fn words_open(words: &[u8; 64], setup: Setup) -> bool
+    requires { ⌜ setupAnswer setup ≡ 0 ⌝ }
+    ensures { λ r. ⌜ r ≡ allBelow (setup .leaves * setup .segments) (closedTest setup (now (words .entry))) ⌝ }
+{
+    if setup.closed == 0 {
+        return true;
+    }
+    let count = setup.leaves * setup.segments;
+    let mut r: u8 = 0;
+    while r < count {
+        let shut = closed::closed_word(setup, r);
+        let i = r as usize;
+        if words[i] & shut != 0 {
+            return false;
+        }
+        r += 1;
+    }
+    true
+}
+
 // A name below k, or none. One more than none is 0 in a byte, so that one comparison tells: no processor foresees who holds a name.
-fn is_name(k: u8, m: u8) -> bool
-    ensures { λ r. ⌜ r ≡ nameTest k m ⌝ }
+fn is_below(k: u8, m: u8) -> bool
+    ensures { λ r. ⌜ r ≡ (ltb m k || eqb m none) ⌝ }
 {
     (m as u16 + 1) % 256 <= k as u16
+}
+
+// A name below k that is open, or none.
+fn is_name(setup: Setup, m: u8) -> bool
+    requires { ⌜ setupAnswer setup ≡ 0 ⌝ }
+    ensures { λ r. ⌜ r ≡ nameTest setup m ⌝ }
+{
+    let k = limits::names_of(setup);
+    if setup.closed == 0 {
+        return is_below(k, m);
+    }
+    if m < k {
+        return closed::is_open(setup.closed, m);
+    }
+    m == NO_NAME
 }
 
 // The numbers of one process. Its steps and return operations are bytes; their sum is to be one, too.
@@ -151,7 +192,7 @@ fn process_in_range(h: Process, setup: Setup) -> bool
     if !counts::within(h) {
         return false;
     }
-    is_name(limits::names_of(setup), h.name)
+    is_name(setup, h.name)
 }
 
 // The setup's numbers, the gate word and its queue.
@@ -161,7 +202,7 @@ fn entry_in_range(setup: Setup, gate: i8, queued: u8, queue: &[u8; 64]) -> bool
     if limits::setup_answer(setup) != answer::ACCEPTED {
         return false;
     }
-    if !gate_in_range(limits::names_of(setup), gate) {
+    if !gate_in_range(limits::open_names(setup), gate) {
         return false;
     }
     if queued > 64 {
@@ -181,6 +222,9 @@ pub fn in_range(s: State) -> bool
         return false;
     }
     if !words_in_range(&s.words, s.setup) {
+        return false;
+    }
+    if !words_open(&s.words, s.setup) {
         return false;
     }
     let end = s.setup.processes as usize;

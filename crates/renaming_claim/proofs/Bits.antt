@@ -14,11 +14,12 @@ use lib.ListN.{getD, set}
 use lib.Seq.{getD-set-same, getD-set-other}
 use Rattle.machine.proofs.Rules.{_≡_, _∙_, sym, ap, _≢_, arith, eq-eqb, ne-eqb}
 use Rattle.machine.specs.Below.{sumBelow, indicator as ind}
+use Rattle.machine.specs.Closed.{isOpen, openIn}
 use Rattle.machine.specs.Operations.{bit, clrBit}
 use Rattle.machine.specs.State.{none, wordAt}
 use Rattle.machine.proofs.Facts.Words.{set-bit-same, set-bit-other, clr-bit-same, clr-bit-other}
 use Rattle.renaming_claim.proofs.Facts.Sums.{sum-eq, sum-swap, sum-two, hits}
-use Rattle.renaming_claim.proofs.Invariant.{tally, isOpen, openIn, hasName, words, Bits}
+use Rattle.renaming_claim.proofs.Invariant.{tally, hasName, words, Bits}
 use Rattle.renaming_claim.proofs.Mover.{Setup, Process, State, processAt, Mover, inv, limits, words-fit, stored, counts}
 
 pub word-of : (b r m q i : ℕ) → m < b → i < b → r * b + m ≡ q * b + i → r ≡ q

@@ -3,6 +3,7 @@
 use Prim.Native.Nat.{ℕ, _+_, _*_, _-_, _≤_, _<_}
 use native.Mathlib.Decide.{decLt}
 use Rattle.machine.proofs.Rules.{_≡_, _∙_, ap, arith}
+use Rattle.machine.specs.Closed.{rank}
 use Rattle.machine.specs.Getname.{segmentOf}
 use Rattle.machine.specs.Setup.{height}
 use Rattle.machine.specs.Stage.{getname}
@@ -10,7 +11,7 @@ use Rattle.machine.proofs.Facts.Leaves.{depth-left}
 use Rattle.renaming_claim.proofs.Bounds.Segments.{low-name}
 use Rattle.renaming_claim.proofs.Facts.Tree.{depth-le}
 use Rattle.renaming_claim.proofs.Implies.{fewer-steps}
-use Rattle.renaming_claim.proofs.Invariant.{rank, CostAt, Claiming}
+use Rattle.renaming_claim.proofs.Invariant.{CostAt, Claiming}
 use Rattle.renaming_claim.proofs.Mover.{Setup, Process, State, processAt, Mover, by-stage, own-range, limits, leaves-16}
 use Rattle.renaming_claim.proofs.Regions.{rank-split}
 

@@ -19,10 +19,11 @@ use Rattle.machine.proofs.Rules.{false≢true, _≢_, arith, lt-ltb, ne-eqb, le
 use Rattle.machine.specs.Admitted.{isAdmitted, admitted}
 use Rattle.machine.specs.Below.{allBelow, anyBelow, sumBelow, indicator as ind}
 use Rattle.machine.specs.Gate.{above0, among, inQueue, movedUp, headGone}
+use Rattle.machine.specs.Setup.{openNames}
 use Rattle.machine.specs.Stage.{waiting, getname}
 use Rattle.machine.proofs.Facts.Lists.{getD-moved}
 use Rattle.renaming_claim.proofs.Facts.Sums.{ind-le, sum-eq, sum-add, sum-const, sum-first, sum-swap, sum-found}
-use Rattle.renaming_claim.proofs.Invariant.{at, tally, beyond, occurs, allOpen, GateWord, Gate}
+use Rattle.renaming_claim.proofs.Invariant.{at, tally, beyond, occurs, GateWord, Gate}
 use Rattle.renaming_claim.proofs.Mover.{Setup, Process, State, processAt, Mover, inv}
 use Rattle.renaming_claim.proofs.Mover.{unqueued, stored, own-stored, other-stored, counts}
 
@@ -102,10 +103,10 @@ module _ (s : State) (gt : Gate (s .setup) (s .process) (s .gate) (s .queued) (s
       ∙ sum-add _ one-admitted one-queued
       ∙ ap (λ (x : ℕ). sumBelow (s .setup .processes) one-admitted + x) (occurs-all _ (s .queued) (s .queue) entries)
 
-  pub admitted-open : admitted s ≤ allOpen (s .setup)
+  pub admitted-open : admitted s ≤ openNames (s .setup)
   admitted-open = go (s .gate) (gt .word)
     where
-      go : (a : ℤ) → GateWord (s .setup) a (tally (s .setup) beyond (s .process)) (s .queued) → admitted s ≤ allOpen (s .setup)
+      go : (a : ℤ) → GateWord (s .setup) a (tally (s .setup) beyond (s .process)) (s .queued) → admitted s ≤ openNames (s .setup)
       go (pos a) k = omega (arith, beyond-is)
       go (negsuc a) k = omega (arith, beyond-is)
 

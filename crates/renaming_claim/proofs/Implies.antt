@@ -1,12 +1,13 @@
--- The invariant implies what the claim says of a state. Of names: at most k are admitted, a working process's name is below k and below
--- M, no other process has it, and none is exhausted. Of steps: a working process took one for each level and the one that won at
+-- The invariant implies what the claim says of a state. Of names: no more are admitted than names are open, a working process's name is
+-- open, and so below k, with fewer than M open ones below it, no other process has it, and none is exhausted. Of steps: a working process took one for each level and the one that won at
 -- least, and one for each level and each segment at most; a process in getname has taken fewer. Assumes nothing.
 use Prim.Native.Nat.{ℕ, _+_, _≤_, _<_}
-use lib.Arith.{digits-lt}
 use Rattle.machine.proofs.Rules.{_≡_, _∙_, sym, _≢_, arith}
 use Rattle.machine.specs.Admitted.{admitted}
 use Rattle.machine.specs.Getname.{segmentOf}
-use Rattle.machine.specs.Setup.{names, height}
+use Rattle.machine.specs.Closed.{rank}
+use Rattle.machine.specs.Range.{OpenName}
+use Rattle.machine.specs.Setup.{openNames, height}
 use Rattle.machine.specs.Stage.{getname, working, exhausted}
 use Rattle.machine.specs.State.{none}
 use Rattle.machine.proofs.Places.{leaf-segment}
@@ -15,11 +16,9 @@ use Rattle.renaming_claim.proofs.Facts.Tree.{depth-le}
 use Rattle.renaming_claim.proofs.Gate.{admitted-open}
 use Rattle.renaming_claim.proofs.Invariant.{words, Stands}
 use Rattle.renaming_claim.proofs.Mover.{Setup, Process, State, processAt, Sound, Mover, shape, by-stage, own-range, limits}
-use Rattle.renaming_claim.proofs.Regions.{open-is, rank-is}
 
-pub admitted-few : {M : ℕ} (s : State) → Sound M s → admitted s ≤ names (s .setup)
-admitted-few s so =
-    omega (arith, admitted-open s (so .inv .gate) (so .valid .ranges .queue .entries), open-is (s .setup) 0 (names (s .setup)))
+pub admitted-few : {M : ℕ} (s : State) → Sound M s → admitted s ≤ openNames (s .setup)
+admitted-few s so = admitted-open s (so .inv .gate) (so .valid .ranges .queue .entries)
 
 module _ {M : ℕ} {s : State} {p : ℕ} (m : Mover M s p) where
   abbrev c : Setup
@@ -41,11 +40,11 @@ module _ {M : ℕ} {s : State} {p : ℕ} (m : Mover M s p) where
     word-used : segmentOf (s .setup) h < words c
     word-used = leaf-segment (own-range m) (stands .leaf)
 
-    pub name-below : h .name < names (s .setup)
-    name-below = omega (arith, stands .is, digits-lt word-used (stands .within))
+    pub name-open : OpenName c (h .name)
+    name-open = own-range m .name named
 
-    pub name-low : h .name < M
-    name-low = omega (arith, shape m .low named, rank-is c (h .name))
+    pub name-low : rank c (h .name) < M
+    name-low = shape m .low named
 
     pub names-unlike : (q : ℕ) → q < c .processes → p ≢ q → h .name ≢ processAt s q .name
     names-unlike q l d same = bits-unlike m word-used (stands .within) q l d (stands .is) (sym same ∙ stands .is)

@@ -13,15 +13,16 @@ use lib.IntN.{ℤ, pos, negsuc}
 use lib.ListN.{getD}
 use Rattle.machine.proofs.Rules.{_≡_, Bool, true, _≢_}
 use Rattle.machine.specs.Below.{sumBelow, indicator as ind}
+use Rattle.machine.specs.Closed.{openIn, rank}
 use Rattle.machine.specs.Operations.{bit}
-use Rattle.machine.specs.Setup.{names, height, log2}
+use Rattle.machine.specs.Setup.{openNames, height, log2}
 use Rattle.machine.specs.declared.Setup.{Setup}
 use Rattle.machine.specs.Stage.{waiting, getname, working}
-use Rattle.machine.specs.State.{none, noProcess, processAt}
+use Rattle.machine.specs.State.{none, noProcess, processAt, nodeFirst, nodeCount, freshCounter}
 use Rattle.machine.specs.declared.Process.{Process}
 use Rattle.machine.specs.declared.State.{State}
 use Rattle.renaming_claim.proofs.Facts.Computed.{_⊓_}
-use Rattle.renaming_claim.proofs.Facts.Tree.{under, width, firstLeaf}
+use Rattle.renaming_claim.proofs.Facts.Tree.{under}
 
 -- the process at a place
 abbrev pub at : List Process → ℕ → Process
@@ -30,18 +31,6 @@ at ps p = getD ps p noProcess
 -- how many processes pass a test
 unfoldable pub tally : Setup → (Process → Bool) → List Process → ℕ
 tally c test ps = sumBelow (c .processes) (λ p. ind (test (at ps p)))
-
--- Every name is open here; the laws hold for any choice of open names.
-module _ (c : Setup) where
-  unfoldable pub isOpen : ℕ → Bool
-  isOpen m = true
-
-  -- the open names among n from a name on; the open names below a name
-  unfoldable pub openIn : ℕ → ℕ → ℕ
-  openIn from n = sumBelow n (λ m. ind (isOpen (from + m)))
-
-  unfoldable pub rank : ℕ → ℕ
-  rank m = sumBelow m (λ i. ind (isOpen i))
 
 -- SHAPES. What a process's own numbers say of each other. Said of numbers, so that it holds alike of two records that differ elsewhere.
 
@@ -139,7 +128,7 @@ Home h = HomeAt (h .node) (h .segment) (h .name)
 abbrev pub Entering : Process → Type 0
 Entering h = EnteringAt (h .node) (h .segment) (h .name) (h .steps) (h .returns)
 
--- GATE. The gate word is k less the number of processes in stage 2 or later, and the queue has one place for each that it fell below
+-- GATE. The gate word is the number of open names less the number of processes in stage 2 or later, and the queue has one place for each that it fell below
 -- 0. Nobody stands in the queue twice, and whoever does is in stage 2.
 
 -- in stage 2 or later: past the gate, or in its queue
@@ -151,13 +140,10 @@ unfoldable pub occurs : List ℕ → ℕ → ℕ → ℕ
 occurs q n p = sumBelow n (λ i. ind (eqb (getD q i 0) p))
 
 module _ (c : Setup) where
-  abbrev pub allOpen : ℕ
-  allOpen = openIn c 0 (names c)
-
   -- the gate word, with so many in stage 2 or later and so many queued
   abbrev pub GateWord : ℤ → ℕ → ℕ → Type 0
-  GateWord (pos a) count n = (count + a ≡ allOpen) × (n ≡ 0)
-  GateWord (negsuc a) count n = (allOpen + suc a ≡ count) × (n ≡ suc a)
+  GateWord (pos a) count n = (count + a ≡ openNames c) × (n ≡ 0)
+  GateWord (negsuc a) count n = (openNames c + suc a ≡ count) × (n ≡ suc a)
 
   pub record Gate (ps : List Process) (a : ℤ) (n : ℕ) (q : List ℕ) : Type 0 where
     pub word : GateWord a (tally c beyond ps) n
@@ -186,16 +172,6 @@ unfoldable pub inSegments : ℕ → ℕ → Process → Bool
 inSegments u i h = leb getname (h .stage) ⊓ (eqb u (h .node) ⊓ leb i (h .segment))
 
 module _ (c : Setup) where
-  -- the first name under a node, and how many
-  abbrev pub leafNames : ℕ
-  leafNames = c .segments * c .bits
-
-  unfoldable pub nodeFirst : ℕ → ℕ
-  nodeFirst u = firstLeaf (c .leaves) u * leafNames
-
-  unfoldable pub nodeCount : ℕ → ℕ
-  nodeCount u = width (c .leaves) u * leafNames
-
   -- the first name of segment i of leaf j, and how many from there to the leaf's end
   abbrev pub segmentFirst : ℕ → ℕ → ℕ
   segmentFirst j i = (j * c .segments + i) * c .bits
@@ -211,7 +187,7 @@ module _ (c : Setup) where
 
     -- C(u) ≤ names under u, and ≤ M - (first name under u)
     abbrev pub SubtreeBound : List Process → ℕ → Type 0
-    SubtreeBound ps u = Bound (tally c (inSubtree u) ps) (nodeFirst u) (nodeCount u)
+    SubtreeBound ps u = Bound (tally c (inSubtree u) ps) (nodeFirst c u) (nodeCount c u)
 
     -- R(j, i) ≤ names from segment i on, and ≤ M - (first name of segment i)
     abbrev pub SegmentBound : List Process → ℕ → ℕ → Type 0
@@ -219,7 +195,7 @@ module _ (c : Setup) where
 
   -- counter of v + C(left child of v) = names under the left child of v
   abbrev pub CounterIs : List Process → List ℕ → ℕ → Type 0
-  CounterIs ps cs v = getD cs v 0 + tally c (inSubtree (2 * v)) ps ≡ openIn c (nodeFirst (2 * v)) (nodeCount (2 * v))
+  CounterIs ps cs v = getD cs v 0 + tally c (inSubtree (2 * v)) ps ≡ freshCounter c v
 
   -- of every node, of every leaf from segment 1 on (segment 0 is the leaf's own bound), and of every node above the leaves
   pub record Bounds (M : ℕ) (ps : List Process) (cs : List ℕ) : Type 0 where

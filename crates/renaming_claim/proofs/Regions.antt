@@ -4,7 +4,6 @@
 --     rank-split                the open names below a name, in two
 --     open-both, rank-right     names under the children of a node
 --     open-next, rank-next      names from the next segment on
---     open-is, rank-is          with every name open, counts are lengths
 --     subtree-, segments-       who stands in a subtree, or at a leaf in a segment or a later one
 -- Assumes nothing.
 use Prim.Native.Nat.{ℕ, suc, _+_, _*_, _-_, _≤_, _<_}
@@ -13,16 +12,17 @@ use native.Mathlib.Nat.{sub-zero}
 use lib.Dec.{eqb, leb}
 use Rattle.machine.proofs.Rules.{_≡_, _∙_, ap, true, false, Bool, _≢_, arith, eq-eqb, le-leb, ne-eqb, lt-leb}
 use Rattle.machine.specs.Below.{sumBelow, indicator as ind}
+use Rattle.machine.specs.Closed.{isOpen, openIn, rank}
 use Rattle.machine.specs.Setup.{names, isLeaves}
+use Rattle.machine.specs.State.{nodeFirst, nodeCount}
 use Rattle.machine.specs.declared.Setup.{Setup}
 use Rattle.machine.specs.Stage.{getname}
 use Rattle.machine.specs.declared.Process.{Process}
 use Rattle.renaming_claim.proofs.Facts.Computed.{_⊓_, meet-false}
-use Rattle.renaming_claim.proofs.Facts.Sums.{ind-le, sum-eq, sum-const, sum-split}
+use Rattle.renaming_claim.proofs.Facts.Sums.{ind-le, sum-eq, sum-split}
 use Rattle.renaming_claim.proofs.Facts.Tree as tree
 use Rattle.renaming_claim.proofs.Facts.Tree.{under, pair, under-self}
-use Rattle.renaming_claim.proofs.Invariant.{isOpen, openIn, rank, inSubtree, inSegments, leafNames}
-use Rattle.renaming_claim.proofs.Invariant.{nodeFirst, nodeCount, segmentFirst, segmentCount}
+use Rattle.renaming_claim.proofs.Invariant.{inSubtree, inSegments, segmentFirst, segmentCount}
 
 module _ (c : Setup) where
   open-split : (from n m : ℕ) → openIn c from (n + m) ≡ openIn c from n + openIn c (from + n) m
@@ -36,14 +36,6 @@ module _ (c : Setup) where
   unfolding openIn rank
   rank-split m n = sum-split m n (λ i. ind (isOpen c i))
 
-  pub open-is : (from n : ℕ) → openIn c from n ≡ n
-  unfolding openIn isOpen
-  open-is from n = omega (arith, sum-const n 1)
-
-  pub rank-is : (m : ℕ) → rank c m ≡ m
-  unfolding rank isOpen
-  rank-is m = omega (arith, sum-const m 1)
-
   -- the open names under a node
   abbrev openUnder : ℕ → ℕ
   openUnder u = openIn c (nodeFirst c u) (nodeCount c u)
@@ -52,7 +44,7 @@ module _ (c : Setup) where
     module _ {v : ℕ} (v0 : 0 < v) (k : v < c .leaves) where
       pub first-left : nodeFirst c (2 * v) ≡ nodeFirst c v
       unfolding nodeFirst
-      first-left = ap (λ (x : ℕ). x * leafNames c) (tree.first-left (c .leaves) e v0 k)
+      first-left = ap (λ (x : ℕ). x * (c .segments * c .bits)) (tree.first-left (c .leaves) e v0 k)
 
       first-right : nodeFirst c (2 * v + 1) ≡ nodeFirst c v + nodeCount c (2 * v)
       unfolding nodeFirst nodeCount

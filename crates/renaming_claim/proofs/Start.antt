@@ -1,14 +1,13 @@
--- The invariant holds of the fresh state of every accepted setup: nobody stands anywhere, and each counter is the number of names on
--- its left. Assumes nothing.
-use Prim.Native.Nat.{ℕ, suc, _+_, _*_, _/_, _^_, _<_}
-use native.Mathlib.Nat.{mul-assoc, mul-right-comm, mul-div-cancel, zero-div}
+-- The invariant holds of the fresh state of every accepted setup: nobody stands anywhere, and each counter is the number of open names
+-- on its left. Assumes nothing.
+use Prim.Native.Nat.{ℕ, suc, _+_, _*_}
+use native.Mathlib.Nat.{zero-div}
 use lib.Arith.{digits-lt}
-use lib.Pow.{pow-pos}
-use Rattle.machine.proofs.Rules.{_≡_, _∙_, sym, ap, refl, false, Bool, arith, ne-eqb}
+use Rattle.machine.proofs.Rules.{_≡_, refl, false, Bool, arith, ne-eqb}
 use Rattle.machine.specs.Below.{sumBelow}
-use Rattle.machine.specs.Setup.{names, setupAnswer, log2}
+use Rattle.machine.specs.Setup.{setupAnswer}
 use Rattle.machine.specs.declared.Setup.{Setup}
-use Rattle.machine.specs.State.{none, freshProcess, freshCounter, fresh}
+use Rattle.machine.specs.State.{none, freshProcess, fresh}
 use Rattle.machine.specs.declared.Process.{Process}
 use Rattle.machine.specs.declared.State.{State}
 use Rattle.machine.proofs.Facts.Below.{getD-constant}
@@ -17,11 +16,9 @@ use Rattle.machine.proofs.Ranges.{Limits, limits-of, ranges-of}
 use Rattle.machine.proofs.Sized.{fresh-sized}
 use Rattle.renaming_claim.proofs.Facts.Computed.{_⊓_}
 use Rattle.renaming_claim.proofs.Facts.Sums.{sum-zero}
-use Rattle.renaming_claim.proofs.Facts.Tree.{width, width-level}
 use Rattle.renaming_claim.proofs.Invariant.{tally, beyond, occurs, hasName, inSubtree, inSegments}
-use Rattle.renaming_claim.proofs.Invariant.{nodeFirst, nodeCount, Home, Bound, Invariant}
+use Rattle.renaming_claim.proofs.Invariant.{Home, Bound, Invariant}
 use Rattle.renaming_claim.proofs.Mover.{Sound, no-cost, nameless-shape}
-use Rattle.renaming_claim.proofs.Regions.{open-is}
 
 module _ (c : Setup) (accepted : setupAnswer c ≡ 0) where
   abbrev s : State
@@ -38,18 +35,6 @@ module _ (c : Setup) (accepted : setupAnswer c ≡ 0) where
   empty : (M : ℕ) (test : Process → Bool) {from len : ℕ} → test freshProcess ≡ false → Bound c M (tally c test (s .process)) from len
   empty M test e = rw (none-yet test e) (record { cap = omega arith; top = omega arith })
 
-  -- k / 2^(d+1) names lie under a left child
-  counter-names : (v : ℕ) → 0 < v → v < c .leaves → freshCounter c v ≡ nodeCount c (2 * v)
-  unfolding nodeCount
-  counter-names v v0 k =
-      let g : ℕ = c .segments in
-      let b : ℕ = c .bits in
-      let w : ℕ = width (c .leaves) (2 * v) in
-      let d : ℕ = 2 ^ (log2 v + 1) in
-      let e : w * d ≡ c .leaves = width-level (c .leaves) (limits .leaves) v0 k in
-      ap (λ (x : ℕ). x / d) (ap (λ (x : ℕ). x * g * b) (sym e) ∙ mul-assoc (w * d) g b ∙ mul-right-comm w d (g * b))
-      ∙ mul-div-cancel (w * (g * b)) (pow-pos (log2 v + 1))
-
   start-holds : (M : ℕ) → Invariant M s
   unfolding fresh
   start-holds M =
@@ -59,7 +44,7 @@ module _ (c : Setup) (accepted : setupAnswer c ≡ 0) where
             rw (process-fresh c accepted p k) (nameless-shape c M freshProcess refl (no-cost c M) home);
         gate =
             record {
-              word = (rw (none-yet beyond (unfold beyond in refl)) (omega (arith, open-is c 0 (names c))), refl);
+              word = (rw (none-yet beyond (unfold beyond in refl)) (omega arith), refl);
               queue = λ p. unfold occurs sumBelow in omega arith;
             };
         bits =
@@ -74,8 +59,7 @@ module _ (c : Setup) (accepted : setupAnswer c ≡ 0) where
               subtrees = λ u u0 k. empty M (inSubtree u) (unfold inSubtree _⊓_ in refl);
               segments = λ j i k m. empty M (inSegments (c .leaves + j) (suc i)) (unfold inSegments _⊓_ in refl);
               counters = λ v v0 k.
-                  rw (none-yet (inSubtree (2 * v)) (unfold inSubtree _⊓_ in refl), counter-fresh c accepted v v0 k)
-                  (omega (arith, counter-names v v0 k, open-is c (nodeFirst c (2 * v)) (nodeCount c (2 * v))));
+                  rw (none-yet (inSubtree (2 * v)) (unfold inSubtree _⊓_ in refl), counter-fresh c accepted v v0 k) (omega arith);
             };
       }
 

@@ -1,20 +1,23 @@
--- Demand 3 holds: for every setup that is accepted and every list of events, the claim. The invariant holds along the list with M the
+-- Demand 3 holds: for every setup that is accepted, closed names among it or not, and every list of events, the claim. The invariant holds along the list with M the
 -- number of processes, which gives all but the low names, and with M any bound on the admitted, which gives those.
 -- Assumes nothing.
 use mathlib.Core.List.{List}
 use Prim.Native.Nat.{ℕ, _+_, _≤_, _<_}
 use lib.ListN.{length, take}
-use Rattle.machine.proofs.Rules.{_∙_, ap, _≡_, true, arith}
+use Rattle.machine.proofs.Rules.{_≡_, _∙_, ap, subst, refl, true, arith}
 use Rattle.machine.specs.Admitted.{admitted}
+use Rattle.machine.specs.Closed.{rank}
 use Rattle.machine.specs.Lists.{Event, after}
-use Rattle.machine.specs.Setup.{names, setupAnswer, height}
-use Rattle.machine.specs.Stage.{remainder}
+use Rattle.machine.specs.Range.{OpenName}
+use Rattle.machine.specs.Setup.{plain, names, openNames, setupAnswer, height}
+use Rattle.machine.specs.Stage.{remainder, working}
 use Rattle.machine.specs.State.{fresh}
 use Rattle.machine.proofs.Laws.Fresh.{process-fresh}
-use Rattle.renaming_claim.specs.Claim.{Claim, afterList, EveryList}
+use Rattle.machine.proofs.Laws.Plain.{open-all, rank-all}
+use Rattle.renaming_claim.specs.Claim.{Claim, NoneClosed, afterList, EveryList, EveryPlainList}
 use Rattle.renaming_claim.specs.History.{claimSteps, returnOperations, asked}
 use Rattle.renaming_claim.proofs.Along.{list-steps, list-returns, list-wins}
-use Rattle.renaming_claim.proofs.Implies.{admitted-few, not-exhausted, name-below, name-low, names-unlike, least-steps, most-steps}
+use Rattle.renaming_claim.proofs.Implies.{admitted-few, not-exhausted, name-open, name-low, names-unlike, least-steps, most-steps}
 use Rattle.renaming_claim.proofs.Mover.{Setup, Process, State, processAt, Mover}
 use Rattle.renaming_claim.proofs.Preserved.{Steady, list-sound, list-steady, list-setup}
 use Rattle.renaming_claim.proofs.Rounds.{Full, asked-rested}
@@ -52,9 +55,6 @@ module _ (c : Setup) (accepted : setupAnswer c ≡ 0) where
     unfolding fresh
     setup-is = list-setup s es
 
-    names-are : names (t .setup) ≡ names c
-    names-are = ap (λ (d : Setup). names d) setup-is
-
     height-is : height (t .setup .leaves) ≡ height (c .leaves)
     height-is = ap (λ (d : Setup). height (d .leaves)) setup-is
 
@@ -69,6 +69,10 @@ module _ (c : Setup) (accepted : setupAnswer c ≡ 0) where
       one : Mover (t .setup .processes) t p
       one = record { sound = sound; known = known }
 
+      -- it holds a name of the setup, an open one
+      held : processAt t p .stage ≡ working → OpenName c (processAt t p .name)
+      held e = subst (λ (d : Setup). OpenName d (processAt t p .name)) setup-is (name-open one e)
+
       -- it is idle, with an accepted request behind it
       round : processAt t p .stage ≡ remainder → asked p s es ≡ true → Full (t .setup) (processAt t p)
       round e a = asked-rested s p (first p k) es a e
@@ -80,11 +84,13 @@ module _ (c : Setup) (accepted : setupAnswer c ≡ 0) where
   holds : (es : List Event) → Claim c (afterList c) es
   holds es =
       record {
-        admitted-k = omega (arith, admitted-few (t es) (sound es), names-are es);
-        held-below = λ p k e. omega (arith, name-below (one es p k) e, names-are es);
+        admitted-open = subst (λ (d : Setup). admitted (t es) ≤ openNames d) (setup-is es) (admitted-few (t es) (sound es));
+        held-open = λ p k e. held es p k e .is-open;
+        held-below = λ p k e. held es p k e .below;
         held-unlike = λ p q k j d e f. names-unlike (one es p k) e q (known es q j) d;
         none-exhausted = λ p k. not-exhausted (one es p k);
-        held-low = λ m few p k e. omega (arith, name-low (low es p k m few) e);
+        held-low = λ m few p k e.
+            subst (λ (d : Setup). rank d (processAt (t es) p .name) < m) (setup-is es) (name-low (low es p k m few) e);
         steps-counted = steps-are es;
         returns-counted = returns-are es;
         steps-least = λ p k e. omega (arith, least-steps (one es p k) e, height-is es);
@@ -99,3 +105,15 @@ module _ (c : Setup) (accepted : setupAnswer c ≡ 0) where
 
 pub theorem : EveryList
 theorem = holds
+
+-- where none is closed, the open names are all names
+pub none-closed : {c : Setup} {stateAfter : List Event → State} {es : List Event} → c .closed ≡ 0 → Claim c stateAfter es
+    → NoneClosed c stateAfter es
+none-closed {c} {stateAfter} {es} none claim =
+    record {
+      admitted-k = omega (arith, claim .admitted-open, open-all c none 0 (names c));
+      held-low-m = λ m few p k e. omega (arith, claim .held-low m few p k e, rank-all c none (processAt (stateAfter es) p .name));
+    }
+
+pub plain-theorem : EveryPlainList
+plain-theorem n l g b accepted es = none-closed refl (theorem (plain n l g b) accepted es)

@@ -1,7 +1,9 @@
 -- Demand 3: what holds after every list of events from an accepted setup c of N processes (handsets), L leaves, g segments
--- (rows) and b bits. A list has any length and its events are any two numbers, refused ones included. The machine is fed the four
--- numbers and the events alone; its stages say who is admitted (let in), in getname (claiming), working (holding) or exhausted
--- (astray). "Where demand 3 says spent it now means the claim figure" (document 02, b): the record's steps.
+-- (rows), b bits and any closed names (pads). A list has any length and its events are any two numbers, refused ones included. The
+-- machine is fed the setup's numbers and the events alone; its stages say who is admitted (let in), in getname (claiming), working
+-- (holding) or exhausted (astray). "Where demand 3 says spent it now means the claim figure" (document 02, b): the record's steps.
+-- Document 02, e) says open pads where demand 3 said pads, and "among the m lowest open ones" where it said below m; "all else in demand 3
+-- remains".
 use mathlib.Core.Path.{_≡_}
 use mathlib.Core.Logic.{_≢_}
 use mathlib.Core.Bool.{true}
@@ -9,8 +11,9 @@ use mathlib.Core.List.{List}
 use Prim.Native.Nat.{ℕ, _+_, _*_, _≤_, _<_}
 use lib.ListN.{length, take}
 use Rattle.machine.specs.Admitted.{admitted}
+use Rattle.machine.specs.Closed.{isOpen, rank}
 use Rattle.machine.specs.Lists.{Event, after}
-use Rattle.machine.specs.Setup.{setupAnswer, names, height}
+use Rattle.machine.specs.Setup.{setupAnswer, plain, names, openNames, height}
 use Rattle.machine.specs.Stage.{remainder, getname, working, exhausted}
 use Rattle.machine.specs.State.{figure, processAt, fresh}
 use Rattle.machine.specs.declared.Process.{Process}
@@ -28,8 +31,10 @@ module _ (c : Setup) (stateAfter : List Event → State) where
   processAfter es p = processAt (stateAfter es) p
 
   pub record Claim (es : List Event) : Type 0 where
-    -- At most k handsets are let in.
-    pub admitted-k : admitted (stateAfter es) ≤ names c
+    -- Handsets let in never outnumber open pads (document 02, e).
+    pub admitted-open : admitted (stateAfter es) ≤ openNames c
+    -- No closed pad is held (document 02, e).
+    pub held-open : (p : ℕ) → p < c .processes → processAfter es p .stage ≡ working → isOpen c (processAfter es p .name) ≡ true
     -- Holders' pads are below k
     pub held-below : (p : ℕ) → p < c .processes → processAfter es p .stage ≡ working → processAfter es p .name < names c
     -- and all unlike.
@@ -38,9 +43,10 @@ module _ (c : Setup) (stateAfter : List Event → State) where
         → processAfter es p .name ≢ processAfter es q .name
     -- No handset is astray.
     pub none-exhausted : (p : ℕ) → p < c .processes → processAfter es p .stage ≢ exhausted
-    -- If at no moment in the list (its start, and directly after each event) were more than m let in, every held pad is below m.
+    -- If at no moment in the list (its start, and directly after each event) were more than m let in, every held pad is among the m lowest
+    -- open ones (document 02, e): fewer than m open ones lie below it.
     pub held-low : (m : ℕ) → ((i : ℕ) → i ≤ length es → admitted (stateAfter (take i es)) ≤ m)
-        → (p : ℕ) → p < c .processes → processAfter es p .stage ≡ working → processAfter es p .name < m
+        → (p : ℕ) → p < c .processes → processAfter es p .stage ≡ working → rank c (processAfter es p .name) < m
     -- Each handset's spent is the number of its claim turns since its last accepted ask; before its first there are none.
     pub steps-counted : (p : ℕ) → p < c .processes → processAfter es p .steps ≡ claimSteps p (fresh c) es 0
     -- Its return operations since then are counted beside them (document 02, b); before its first accepted ask there are none.
@@ -65,6 +71,19 @@ module _ (c : Setup) (stateAfter : List Event → State) where
         → height (c .leaves) + c .segments ≤ stepsGiven p fs
         → HoldsWithin (height (c .leaves) + c .segments) (after (stateAfter es)) p fs
 
--- Demand 3 of the machine: the claim holds after every list, from every accepted setup.
+  -- Where a setup closes none, the claim is demand 3's own: the two sentences that document 02, e) changes, as they were.
+  pub record NoneClosed (es : List Event) : Type 0 where
+    -- At most k handsets are let in.
+    pub admitted-k : admitted (stateAfter es) ≤ names c
+    -- If at no moment in the list (its start, and directly after each event) were more than m let in, every held pad is below m.
+    pub held-low-m : (m : ℕ) → ((i : ℕ) → i ≤ length es → admitted (stateAfter (take i es)) ≤ m)
+        → (p : ℕ) → p < c .processes → processAfter es p .stage ≡ working → processAfter es p .name < m
+
+-- Demand 3 of the machine: the claim holds after every list, from every accepted setup, with closed names or without.
 abbrev pub EveryList : Type 0
 EveryList = (c : Setup) → setupAnswer c ≡ 0 → (es : List Event) → Claim c (afterList c) es
+
+-- And so from every accepted setup of four numbers, in demand 3's own words.
+abbrev pub EveryPlainList : Type 0
+EveryPlainList =
+    (n l g b : ℕ) → setupAnswer (plain n l g b) ≡ 0 → (es : List Event) → NoneClosed (plain n l g b) (afterList (plain n l g b)) es

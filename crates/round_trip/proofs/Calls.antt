@@ -52,11 +52,11 @@ pub read-back : EveryReadBack
 unfolding fresh
 read-back n l g b w answered r lent =
     let file : now (r .file) ≡ fileWritten (c w) (now (w .events)) (now (w .out)) = lent ∙ same-file w in
-    let state = r .read ∙ ap readSetup file ∙ state-back (c w) (now (w .events)) (now (w .out)) (accepted w answered) in
+    let state = r .read ∙ ap readSetup file ∙ state-back n l g b (now (w .events)) (now (w .out)) (accepted w answered) in
     record {
       state = state;
       numbers = ap (λ (d : Done). d .state .setup) state;
-      events = r .handed .0 ∙ ap readEvents file ∙ events-back (c w) (now (w .events)) (now (w .out)) (accepted w answered);
+      events = r .handed .0 ∙ ap readEvents file ∙ events-back n l g b (now (w .events)) (now (w .out)) (accepted w answered);
     }
 
 pub written-back : EveryWrittenBack

@@ -63,15 +63,23 @@ module _ (c : Setup) (events lent : List ℕ) where
         let p = accepted-write passed in
         rw (p .0, p .1) (take-at (fileBytes c events) (drop (length (fileBytes c events)) lent) (length (fileBytes c events)) refl)
 
-    pub state-back : readSetup (fileWritten c events lent) ≡ done 0 (fresh c)
-    state-back =
-        rw written-file
-        (laid.setup-back c events (even c _ _ passed) (not-long c _ _ passed) (passed-setup c _ _ passed))
+-- what was written of four numbers, read
+module _ (n l g b : ℕ) (events lent : List ℕ) (answered : writeFile (plain n l g b) events lent .answer ≡ 0) where
+  abbrev four : Setup
+  four = plain n l g b
 
-    pub events-back : readEvents (fileWritten c events lent) ≡ events
-    events-back =
-        rw written-file
-        (laid.events-back c events (even c _ _ passed) (not-long c _ _ passed) (passed-setup c _ _ passed))
+  passes : writeAnswer four (length events) (length lent) ≡ 0
+  passes = passed four events lent answered
+
+  pub state-back : readSetup (fileWritten four events lent) ≡ done 0 (fresh four)
+  state-back =
+      rw (written-file four events lent answered)
+      (laid.setup-back n l g b events (even four _ _ passes) (not-long four _ _ passes) (passed-setup four _ _ passes))
+
+  pub events-back : readEvents (fileWritten four events lent) ≡ events
+  events-back =
+      rw (written-file four events lent answered)
+      (laid.events-back n l g b events (even four _ _ passes) (not-long four _ _ passes) (passed-setup four _ _ passes))
 
 module _ (f lent : List ℕ) (bytes : Bytes f) (answered : fileAnswer f ≡ 0) (room : length f ≤ length lent) where
   is-file : fileBytes (bodySetup f) (drop headSize f) ≡ f
@@ -113,9 +121,9 @@ pub round-trips : RoundTrips
 unfolding fresh
 round-trips =
     record {
-      same-state = λ n l g b. state-back (plain n l g b);
-      same-numbers = λ n l g b events lent answered. ap (λ (d : Done). d .state .setup) (state-back (plain n l g b) events lent answered);
-      same-events = λ n l g b. events-back (plain n l g b);
+      same-state = state-back;
+      same-numbers = λ n l g b events lent answered. ap (λ (d : Done). d .state .setup) (state-back n l g b events lent answered);
+      same-events = events-back;
       same-length = length-back;
       same-bytes = bytes-back;
     }

@@ -1,4 +1,4 @@
--- The file of a setup and its events has the layout, and is read as they are: its checks compute on the head's bytes, and the four
+-- The file of a setup that closes none and its events has the layout, and is read as they are: its checks compute on the head's bytes, and the four
 -- bytes of the events' length make it again.
 --     has-layout        the file is answered 0 by the layout
 --     setup-back        its setup is read as given
@@ -8,7 +8,7 @@ use mathlib.Core.List.{List}
 use Prim.Native.Nat.{ℕ, _+_, _%_, _≤_}
 use lib.ListN.{length}
 use Rattle.machine.proofs.Rules.{_≡_, _∙_, refl, true, arith, le-leb, eq-eqb}
-use Rattle.machine.specs.Setup.{setupAnswer}
+use Rattle.machine.specs.Setup.{plain, setupAnswer}
 use Rattle.machine.specs.State.{done, fresh}
 use Rattle.machine.specs.declared.Setup.{Setup}
 use Rattle.machine.proofs.Facts.Checks.{passed-with}
@@ -20,7 +20,10 @@ use Rattle.day_file.proofs.Accepted as accepted
 use Rattle.day_writer.proofs.Writing.{file-length}
 use Rattle.round_trip.proofs.Words.{joined}
 
-module _ (c : Setup) (events : List ℕ) where
+module _ (n l g b : ℕ) (events : List ℕ) where
+  abbrev c : Setup
+  c = plain n l g b
+
   abbrev f : List ℕ
   f = fileBytes c events
 

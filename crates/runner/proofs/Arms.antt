@@ -10,7 +10,7 @@ use Rattle.machine.specs.Answer.{accepted, kind, stranger}
 use Rattle.machine.specs.Event.{event}
 use Rattle.machine.specs.Kind.{release}
 use Rattle.machine.specs.Lists.{showsNone, entryOf, entryBytes}
-use Rattle.machine.specs.Setup.{names}
+use Rattle.machine.specs.Setup.{openNames}
 use Rattle.machine.specs.State.{done, noProcess, figure, processAt, counterAt, wordAt}
 use Rattle.machine.specs.State.{withGate, withQueue, withCounter, withWord, withProcess}
 use Rattle.machine.specs.declared.Done.{Done}
@@ -52,7 +52,10 @@ module _ {s : State} {kind p : ℕ} (turn : Turn s kind p) where
 
   pub told : Setting c h
   told =
-      record { accepted = answer-of c (turn .valid .ranges .limits); ranges = turn .valid .ranges .process p (turn .member) }
+      record {
+        accepted = answer-of c (turn .valid .ranges .limits) (turn .valid .ranges .closed);
+        ranges = turn .valid .ranges .process p (turn .member);
+      }
 
   -- the same by other names
   pub stored-as : {t t′ : State} {x x′ : Process} {a a′ : ℕ}
@@ -115,14 +118,14 @@ module _ {s : State} {kind p : ℕ} (turn : Turn s kind p) where
   parent e em = simp em (at-place e)
 
   pub root : (m : Gated) (q : List ℕ) (z z′ : ℤ) → place ≡ Root → z ≡ s .gate → z′ ≡ m .gate
-      → m ≡ departed (names c) h z (s .queued) → q ≡ departedQueue (names c) z (s .queued) (s .queue)
+      → m ≡ departed (openNames c) h z (s .queued) → q ≡ departedQueue (openNames c) z (s .queued) (s .queue)
       → Stored s kind p (withQueue (m .queued) q (withGate z′ s)) (m .process) (m .answer)
   unfolding doneAt
   root m q z z′ e ez ez′ em eq =
       at-place e
       ∙ gate-as m _ q _ z′
-      (em ∙ ap (λ (y : ℤ). departed (names c) h y (s .queued)) ez)
-      (eq ∙ ap (λ (y : ℤ). departedQueue (names c) y (s .queued) (s .queue)) ez)
+      (em ∙ ap (λ (y : ℤ). departed (openNames c) h y (s .queued)) ez)
+      (eq ∙ ap (λ (y : ℤ). departedQueue (openNames c) y (s .queued) (s .queue)) ez)
       ez′
 
   -- the record stored is that of p after the event

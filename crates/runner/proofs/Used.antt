@@ -1,5 +1,5 @@
 -- The place of an event is one that the setup uses, so its index is within the array: by the tests that find it. Assumes nothing.
-use Prim.Native.Nat.{ℕ, _*_, _%_, _<_}
+use Prim.Native.Nat.{ℕ, _*_, _/_, _%_, _<_}
 use native.Mathlib.Nat.{mod-lt}
 use lib.Dec.{eqb, ltb}
 use Rattle.machine.proofs.Rules.{subst, _≡_, arith, ltb-false, eqb-false, ltb-true}
@@ -27,7 +27,7 @@ module _ {c : Setup} {h : Process} (k : Setting c h) where
   Used (Counter v) = v < 16
   Used (Segment r) = (r < 64) × (r < c .leaves * c .segments)
   Used (Bit r i) = (r < 64) × (i < 8)
-  Used (Parent u) = u < 16
+  Used (Parent u) = (u < 16) × ((0 < u) × (u < c .leaves))
   Used Root = Unit
 
   getname-used : Used (getnamePlace c h)
@@ -42,7 +42,11 @@ module _ {c : Setup} {h : Process} (k : Setting c h) where
   putname-used =
       by-cond Used (eqb (h .name) none)
       (λ _. by-cond Used (ltb 1 (h .node))
-      (λ _. by-cond Used (eqb (h .node % 2) 0) (λ _. omega (arith, k .ranges .node, leaves-16 limits)) (λ _. tt))
+      (λ e.
+      let below : h .node / 2 < c .leaves = omega (arith, k .ranges .node) in
+      by-cond Used (eqb (h .node % 2) 0)
+      (λ _. (omega (arith, below, leaves-16 limits), (omega (arith, ltb-true 1 (h .node) e), below)))
+      (λ _. tt))
       (λ _. tt))
       (λ e.
       let inside = name-segment (k .ranges) (limits .b1) (eqb-false (h .name) none e) in

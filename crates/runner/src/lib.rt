@@ -100,8 +100,8 @@ pub fn run_checked(state: State, events: &[u8], journal: &mut [u8]) -> State
                 answer = m.answer;
             }
             Place::Root => {
-                let k = limits::names_of(t.setup);
-                let m = gate::leave(h, k, t.gate, t.queued, &mut t.queue);
+                let top = limits::open_names(t.setup);
+                let m = gate::leave(h, top, t.gate, t.queued, &mut t.queue);
                 t.gate = m.gate;
                 t.queued = m.queued;
                 x = m.process;

@@ -70,8 +70,8 @@ fn print_list(state: State, count: usize) -> bool
 // Reads a record, runs its list, fills the status records and prints its line. False where the input ends, within a record too, and where
 // more is to be lent than there is.
 pub(crate) fn next() -> bool {
-    let mut image = [0u8; 534];
-    if io::read_full(0, &mut image) < 534 {
+    let mut image = [0u8; 542];
+    if io::read_full(0, &mut image) < 542 {
         return false;
     }
     let done = run_next(image::state_of(&image));

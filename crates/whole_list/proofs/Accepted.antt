@@ -8,20 +8,25 @@ use Rattle.machine.specs.Check.{checked}
 use Rattle.machine.specs.Lists.{after, eventsOf, journalLength, written, runChecks, run, runJournal}
 use Rattle.machine.specs.Range.{inRange}
 use Rattle.machine.specs.Setup.{setupAnswer}
-use Rattle.machine.specs.State.{done, fresh}
+use Rattle.machine.specs.State.{done, fresh, setup}
 use Rattle.machine.specs.declared.Done.{Done}
 use Rattle.machine.specs.declared.Setup.{Setup}
 use Rattle.machine.specs.declared.State.{State}
 use Rattle.machine.proofs.Facts.Checks.{read-of, passed-with, accepted-with, refused-with}
 use Rattle.machine.proofs.Laws.Setup.{setup-answers, setup-accepted}
-use Rattle.whole_list.specs.Calls.{SetUp}
+use Rattle.whole_list.specs.Calls.{Made, by-setup, by-closed-setup}
 
-module _ (c : Setup) (d₀ : Done) (set : SetUp c d₀) (accepted : d₀ .answer ≡ 0) where
+-- each setup's contract gives the machine's
+made-is : {c : Setup} {d : Done} → Made c d → d ≡ setup c
+made-is (by-setup n l g b d m) = m
+made-is (by-closed-setup κs n l g b closed closed′ d m) = m
+
+module _ (c : Setup) (d₀ : Done) (made : Made c d₀) (accepted : d₀ .answer ≡ 0) where
   pub passed : setupAnswer c ≡ 0
-  passed = sym (setup-answers c) ∙ sym (ap (λ (d : Done). d .answer) set) ∙ accepted
+  passed = sym (setup-answers c) ∙ sym (ap (λ (d : Done). d .answer) (made-is made)) ∙ accepted
 
   pub is-fresh : d₀ .state ≡ fresh c
-  is-fresh = ap (λ (d : Done). d .state) (set ∙ setup-accepted c passed)
+  is-fresh = ap (λ (d : Done). d .state) (made-is made ∙ setup-accepted c passed)
 
 module _ (s : State) (bytes lent : List ℕ) where
   answer-of : run s bytes lent .answer ≡ checked (runChecks s bytes lent) (λ a. a) 0

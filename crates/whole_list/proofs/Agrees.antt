@@ -6,7 +6,8 @@ use lib.ListN.{take}
 use Rattle.machine.proofs.Rules.{sym, subst, _≡_, _≢_, true}
 use Rattle.machine.specs.Admitted.{admitted}
 use Rattle.machine.specs.Lists.{Event, after}
-use Rattle.machine.specs.Setup.{names, height}
+use Rattle.machine.specs.Closed.{isOpen, rank}
+use Rattle.machine.specs.Setup.{names, openNames, height}
 use Rattle.machine.specs.Stage.{remainder, getname, working, exhausted}
 use Rattle.machine.specs.State.{figure, processAt, fresh}
 use Rattle.machine.specs.declared.Process.{Process}
@@ -34,7 +35,9 @@ module _ (c : Setup) (f f′ : List Event → State) (es : List Event) (e : f es
   pub agrees : Claim c f es → Claim c f′ es
   agrees a =
       record {
-        admitted-k = across (λ s. admitted s ≤ names c) (a .admitted-k);
+        admitted-open = across (λ s. admitted s ≤ openNames c) (a .admitted-open);
+        held-open = λ p k.
+            across (λ s. processAt s p .stage ≡ working → isOpen c (processAt s p .name) ≡ true) (a .held-open p k);
         held-below = λ p k.
             across (λ s. processAt s p .stage ≡ working → processAt s p .name < names c) (a .held-below p k);
         held-unlike = λ p q k j d.
@@ -42,7 +45,7 @@ module _ (c : Setup) (f f′ : List Event → State) (es : List Event) (e : f es
             (a .held-unlike p q k j d);
         none-exhausted = λ p k. across (λ s. processAt s p .stage ≢ exhausted) (a .none-exhausted p k);
         held-low = λ m few p k.
-            across (λ s. processAt s p .stage ≡ working → processAt s p .name < m)
+            across (λ s. processAt s p .stage ≡ working → rank c (processAt s p .name) < m)
             (a .held-low m (λ i j. subst (λ (s : State). admitted s ≤ m) (sym (prefixes i)) (few i j)) p k);
         steps-counted = λ p k. across (λ s. processAt s p .steps ≡ claimSteps p (fresh c) es 0) (a .steps-counted p k);
         returns-counted = λ p k.

@@ -9,14 +9,13 @@ use lib.ListN.{replicate}
 use Rattle.machine.proofs.Rules.{refl, _≡_, arith}
 use Rattle.machine.specs.Event.{event}
 use Rattle.machine.specs.Lists.{Event, eventOf, eventDone, eventsOf, after, run, runJournal}
-use Rattle.machine.specs.Setup.{plain}
+use Rattle.machine.specs.Setup.{given, plain}
 use Rattle.machine.specs.State.{setup, partialSetup, processAt}
 use Rattle.machine.specs.declared.Done.{Done}
-use Rattle.machine.specs.declared.Setup.{Setup}
 use Rattle.machine.specs.declared.State.{State}
 use Rattle.machine.proofs.Runs.{machine}
 use Rattle.dearest_claim.specs.Dearest.{dearestList, dearestBuffer}
-use Rattle.whole_list.specs.Calls.{SetUp, PartlySetUp, by-event, by-request, by-step, by-release}
+use Rattle.whole_list.specs.Calls.{SetUp, PartlySetUp, ClosedSetUp, by-event, by-request, by-step, by-release}
 use Rattle.whole_list.specs.Calls.{ListCall, resultsOf, Calls, none, call, list, refused-list}
 use Rattle.whole_list.specs.Dearest.{Wrote}
 
@@ -75,16 +74,20 @@ pub holds-drawn : processAt (third .state) 0 .stage ≡ 4
 unfolding machine
 holds-drawn = refl
 
-pub set-up : SetUp (plain 2 1 1 1) start
+pub set-up : SetUp 2 1 1 1 start
 set-up = refl
 
--- the second form gives what it should, whatever the setup and the count
-pub partly-set-up : (c : Setup) (count : ℕ) → PartlySetUp c count (partialSetup c count)
-partly-set-up c count = refl
+-- the other forms give what they should, whatever the four numbers, the count and the closed names
+pub partly-set-up : (n l g b count : ℕ) → PartlySetUp n l g b count (partialSetup (plain n l g b) count)
+partly-set-up n l g b count = refl
 
--- and so does the call of the dearest list, whatever the setup and the buffer
-pub dearest-wrote : (κs : Lfts 1) (c : Setup) (out : List ℕ) → Wrote κs c (lent out) (dearestList c out) (lent (dearestBuffer c out))
-dearest-wrote κs c out = (refl, refl)
+pub closed-set-up : (κs : Lfts 1) (n l g b : ℕ) (ps : List ℕ) → ClosedSetUp κs n l g b (lent ps) (setup (given n l g b ps)) (lent ps)
+closed-set-up κs n l g b ps = refl
+
+-- and so does the call of the dearest list, whatever the four numbers and the buffer
+pub dearest-wrote : (κs : Lfts 1) (n l g b : ℕ) (out : List ℕ)
+    → Wrote κs n l g b (lent out) (dearestList (plain n l g b) out) (lent (dearestBuffer (plain n l g b) out))
+dearest-wrote κs n l g b out = (refl, refl)
 
 pub mixed : Lfts 2 → Calls (start .state)
     (eventOf 0 0 ∷ eventOf 2 0 ∷ eventOf 1 0 ∷ eventOf 1 0 ∷ eventOf 2 0 ∷ eventOf 1 0 ∷ [])

@@ -10,7 +10,7 @@ use denote.Ref.{RefT, now}
 use Rattle.machine.proofs.Rules.{_≡_, _≢_, _∙_, sym, ap, refl, arith, lt-leb, le-leb}
 use Rattle.machine.specs.Answer.{smallBuffer}
 use Rattle.machine.specs.Lists.{Event, listBytes, after}
-use Rattle.machine.specs.Setup.{setupAnswer}
+use Rattle.machine.specs.Setup.{plain, setupAnswer}
 use Rattle.machine.specs.State.{done, fresh, processAt}
 use Rattle.machine.specs.declared.DearestList.{DearestList}
 use Rattle.machine.specs.declared.Done.{Done}
@@ -29,8 +29,11 @@ use Rattle.whole_list.specs.Dearest.{Wrote, Holder, Produced, EveryDeare
 use Rattle.whole_list.proofs.Accepted.{run-carried-out}
 use Rattle.whole_list.proofs.Chain.{end-is}
 
-module _ (κs : Lfts 1) (c : Setup) (d : Done) (out out′ : RefT (List ℕ)) (l : DearestList) (set : SetUp c d)
-    (wrote : Wrote κs c out l out′) where
+module _ (κs : Lfts 1) (n leaves g b : ℕ) (d : Done) (out out′ : RefT (List ℕ)) (l : DearestList) (set : SetUp n leaves g b d)
+    (wrote : Wrote κs n leaves g b out l out′) where
+  abbrev c : Setup
+  c = plain n leaves g b
+
   abbrev lent : List ℕ
   lent = now out
 
@@ -76,7 +79,7 @@ module _ (κs : Lfts 1) (c : Setup) (d : Done) (out out′ : RefT (List ℕ)) (l
     stored = wrote .1 ∙ sym (accepted-list c lent (sym answer-is ∙ a) .1)
 
     claimed : spec.Dearest c
-    claimed = machine.theorem c passes
+    claimed = machine.theorem n leaves g b passes
 
     most : (es : List Event) (ds : List Done) (t : State) → Calls (d .state) es ds t → (p : ℕ) → p < c .processes
         → processAt t p .steps ≤ l .figure

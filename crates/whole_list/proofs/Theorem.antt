@@ -16,7 +16,7 @@ use Rattle.machine.specs.declared.State.{State}
 use Rattle.renaming_claim.specs.Claim.{Claim, afterList}
 use Rattle.renaming_claim.specs.History.{HoldsWithin}
 use Rattle.renaming_claim.proofs.Theorem as claim
-use Rattle.whole_list.specs.Calls.{SetUp, ListCall, listed, resultsOf, Calls, none, list, stateAt, entriesOf}
+use Rattle.whole_list.specs.Calls.{Made, ListCall, listed, resultsOf, Calls, none, list, stateAt, entriesOf}
 use Rattle.whole_list.specs.Whole.{Whole, ownState, EveryChain, EveryListCall}
 use Rattle.whole_list.proofs.Accepted.{passed, is-fresh, run-written, run-untouched}
 use Rattle.whole_list.proofs.Agrees.{agrees}
@@ -46,7 +46,7 @@ held-own {p = p} {s = s} {es = es} {ds = ds} calls w =
     }
 
 pub whole-list : EveryChain
-whole-list c d₀ set accepted es ds t calls =
+whole-list c d₀ made accepted es ds t calls =
     record {
       answered =
           ap (map (λ (d : Done). d .answer)) (results-are calls)
@@ -57,7 +57,8 @@ whole-list c d₀ set accepted es ds t calls =
           ∙ results-states s es i
           ∙ ap (λ (x : State). after x (take i es)) start;
       last = ended;
-      claims = λ i. owned i (λ j. ap (λ (x : State). after x (take j (take i es))) (sym start) ∙ sym (own-is calls i j));
+      claims = owned;
+      none-closed = λ none i. claim.none-closed none (owned i);
       joins = λ fs gs u more. join calls more;
       wins = λ p k st fs gs u more given.
           held-own more
@@ -69,29 +70,31 @@ whole-list c d₀ set accepted es ds t calls =
     s = d₀ .state
 
     start : s ≡ fresh c
-    start = is-fresh c d₀ set accepted
+    start = is-fresh c d₀ made accepted
 
     ended : t ≡ afterList c es
     ended = end-is calls ∙ ap (λ (x : State). after x es) start
 
     claimed : (fs : List Event) → Claim c (afterList c) fs
-    claimed = claim.theorem c (passed c d₀ set accepted)
+    claimed = claim.theorem c (passed c d₀ made accepted)
 
-    owned : (i : ℕ) → ((j : ℕ) → afterList c (take j (take i es)) ≡ ownState s ds (take j (take i es)))
-        → Claim c (ownState s ds) (take i es)
-    owned i same =
+    same : (i j : ℕ) → afterList c (take j (take i es)) ≡ ownState s ds (take j (take i es))
+    same i j = ap (λ (x : State). after x (take j (take i es))) (sym start) ∙ sym (own-is calls i j)
+
+    owned : (i : ℕ) → Claim c (ownState s ds) (take i es)
+    owned i =
         agrees c (afterList c) (ownState s ds) (take i es)
-        (subst (λ (fs : List Event). afterList c fs ≡ ownState s ds fs) (take-length (take i es)) (same (length (take i es))))
-        same
+        (subst (λ (fs : List Event). afterList c fs ≡ ownState s ds fs) (take-length (take i es)) (same i (length (take i es))))
+        (same i)
         (claimed (take i es))
 
 -- one list call on the setup's own state, as a chain
-pub one-list : (c : Setup) (d₀ : Done) → SetUp c d₀ → d₀ .answer ≡ 0 → (d : Done) (one : ListCall (d₀ .state) d) → d .answer ≡ 0
+pub one-list : (c : Setup) (d₀ : Done) → Made c d₀ → d₀ .answer ≡ 0 → (d : Done) (one : ListCall (d₀ .state) d) → d .answer ≡ 0
     → Whole c (d₀ .state) (listed one) (resultsOf (d₀ .state) (listed one)) (d .state)
-one-list c d₀ set accepted d one ran =
+one-list c d₀ made accepted d one ran =
     let s : State = d₀ .state in
     let results : List Done = resultsOf s (listed one) in
-    whole-list c d₀ set accepted (listed one) results (d .state)
+    whole-list c d₀ made accepted (listed one) results (d .state)
     (subst (λ (es : List Event). Calls s es results (d .state)) (append-nil (listed one))
     (subst (λ (ds : List Done). Calls s (listed one ++ []) ds (d .state)) (append-nil results)
     (list s (d .state) d [] [] one ran (none (d .state)))))

@@ -9,25 +9,39 @@ use contract.Lifetimes.{Lfts}
 use denote.Ref.{RefT, now}
 use Rattle.machine.specs.Kind.{request, step, release}
 use Rattle.machine.specs.Lists.{Event, eventOf, eventDone, eventsOf, entryBytes}
+use Rattle.machine.specs.Setup.{given, plain}
 use Rattle.machine.specs.State.{processAt}
 use Rattle.machine.specs.declared.Done.{Done}
 use Rattle.machine.specs.declared.Setup.{Setup}
 use Rattle.machine.specs.declared.State.{State}
 use Rattle.renaming.proofs.setup.setup.Reads as setup-reads
 use Rattle.renaming.proofs.setup.partial_setup.Reads as partial-setup-reads
+use Rattle.renaming.proofs.setup.closed_setup.Reads as closed-setup-reads
 use Rattle.renaming.proofs.event.event.Reads as event-reads
 use Rattle.renaming.proofs.event.request.Reads as request-reads
 use Rattle.renaming.proofs.event.step.Reads as step-reads
 use Rattle.renaming.proofs.event.release.Reads as release-reads
 use Rattle.renaming.proofs.list.run.Reads as run-reads
 
--- `setup(c)` gave d
-abbrev pub SetUp : Setup → Done → Type 0
-SetUp c d = setup-reads.Learnt tt (c, tt) d (c, tt)
+-- `setup(n, l, g, b)` gave d
+abbrev pub SetUp : ℕ → ℕ → ℕ → ℕ → Done → Type 0
+SetUp n l g b d = setup-reads.Learnt tt (n, (l, (g, (b, tt)))) d (n, (l, (g, (b, tt))))
 
--- `partial_setup(c, count)` gave d
-abbrev pub PartlySetUp : Setup → ℕ → Done → Type 0
-PartlySetUp c count d = partial-setup-reads.Learnt tt (c, (count, tt)) d (c, (count, tt))
+-- `partial_setup(n, l, g, b, count)` gave d
+abbrev pub PartlySetUp : ℕ → ℕ → ℕ → ℕ → ℕ → Done → Type 0
+PartlySetUp n l g b count d = partial-setup-reads.Learnt tt (n, (l, (g, (b, (count, tt))))) d (n, (l, (g, (b, (count, tt)))))
+
+-- `closed_setup(n, l, g, b, closed)` gave d and left closed′
+abbrev pub ClosedSetUp : Lfts 1 → ℕ → ℕ → ℕ → ℕ → RefT (List ℕ) → Done → RefT (List ℕ) → Type 0
+ClosedSetUp κs n l g b closed d closed′ =
+    closed-setup-reads.Learnt κs (n, (l, (g, (b, (closed, tt))))) d (n, (l, (g, (b, (closed′, tt)))))
+
+-- a setup of the four numbers, or of these and a list of closed names, gave d: `setup(n, l, g, b)`, which closes none, or
+-- `closed_setup(n, l, g, b, closed)`
+pub data Made : Setup → Done → Type 0 where
+  by-setup : (n l g b : ℕ) (d : Done) → SetUp n l g b d → Made (plain n l g b) d
+  by-closed-setup : (κs : Lfts 1) (n l g b : ℕ) (closed closed′ : RefT (List ℕ)) (d : Done) → ClosedSetUp κs n l g b closed d closed′
+      → Made (given n l g b (now closed)) d
 
 -- a call lent s and given the event gave d: `event(s, kind, p)`, or `request(s, p)`, `step(s, p)` or `release(s, p)`
 pub data Called (s : State) : Event → Done → Type 0 where

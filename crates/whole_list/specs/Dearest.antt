@@ -1,4 +1,5 @@
--- Document 02, d), said of the calls: the list that the call wrote, run by `run` from the state that `setup` gave.
+-- Document 02, d), said of the calls: the list that the call wrote, run by `run` from the state that `setup` gave. Both are given four
+-- numbers, which close none: "the ticket on the dearest claim is about setups that close none" (document 02, e).
 use mathlib.Core.Path.{_≡_}
 use mathlib.Core.Logic.{_≢_}
 use mathlib.Core.List.{List}
@@ -8,6 +9,7 @@ use contract.Lifetimes.{Lfts}
 use denote.Ref.{RefT, now}
 use Rattle.machine.specs.Answer.{smallBuffer}
 use Rattle.machine.specs.Lists.{Event}
+use Rattle.machine.specs.Setup.{plain}
 use Rattle.machine.specs.Stage.{working}
 use Rattle.machine.specs.State.{processAt}
 use Rattle.machine.specs.declared.DearestList.{DearestList}
@@ -18,9 +20,9 @@ use Rattle.dearest_claim.specs.Dearest.{dearestOf, dearestFigure}
 use Rattle.dearest.proofs.dearest_list.Reads as dearest-list-reads
 use Rattle.whole_list.specs.Calls.{SetUp, ListCall, Calls}
 
--- `dearest_list(c, out)` gave l and left out′
-abbrev pub Wrote : Lfts 1 → Setup → RefT (List ℕ) → DearestList → RefT (List ℕ) → Type 0
-Wrote κs c out l out′ = dearest-list-reads.Learnt κs (c, (out, tt)) l (c, (out′, tt))
+-- `dearest_list(n, l, g, b, out)` gave r and left out′
+abbrev pub Wrote : Lfts 1 → ℕ → ℕ → ℕ → ℕ → RefT (List ℕ) → DearestList → RefT (List ℕ) → Type 0
+Wrote κs n l g b out r out′ = dearest-list-reads.Learnt κs (n, (l, (g, (b, (out, tt))))) r (n, (l, (g, (b, (out′, tt)))))
 
 -- a process that holds a name in the state s, with exactly this claim figure
 pub record Holder (c : Setup) (s : State) (figure : ℕ) : Type 0 where
@@ -29,7 +31,7 @@ pub record Holder (c : Setup) (s : State) (figure : ℕ) : Type 0 where
   pub holds : processAt s process .stage ≡ working
   pub costs : processAt s process .steps ≡ figure
 
--- `setup(c)` gave d, and `dearest_list(c, out)` gave l and left the lent bytes as out′.
+-- `setup` of the four numbers of c gave d, and `dearest_list` of them gave l and left the lent bytes as out′.
 pub record Produced (c : Setup) (d : Done) (out : List ℕ) (l : DearestList) (out′ : List ℕ) : Type 0 where
   -- For an accepted setup, produce such a list in a lent buffer,
   pub accepted : d .answer ≡ 0 → 4096 ≤ length out → l .answer ≡ 0
@@ -53,5 +55,5 @@ pub record Produced (c : Setup) (d : Done) (out : List ℕ) (l : DearestList) (o
 
 abbrev pub EveryDearestList : Type 0
 EveryDearestList =
-    (κs : Lfts 1) (c : Setup) (d : Done) (out out′ : RefT (List ℕ)) (l : DearestList)
-    → SetUp c d → Wrote κs c out l out′ → Produced c d (now out) l (now out′)
+    (κs : Lfts 1) (n l g b : ℕ) (d : Done) (out out′ : RefT (List ℕ)) (r : DearestList)
+    → SetUp n l g b d → Wrote κs n l g b out r out′ → Produced (plain n l g b) d (now out) r (now out′)

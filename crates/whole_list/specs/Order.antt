@@ -7,12 +7,13 @@ use lib.ListN.{length}
 use denote.Ref.{now}
 use Rattle.machine.specs.Lists.{after, journalLength}
 use Rattle.machine.specs.Range.{inRange}
+use Rattle.machine.specs.Setup.{plain}
 use Rattle.machine.specs.State.{done, counterAt, withCounters, withCounter, blank}
 use Rattle.machine.specs.declared.Done.{Done}
 use Rattle.machine.specs.declared.Setup.{Setup}
 use Rattle.whole_list.specs.Calls.{SetUp, PartlySetUp, ListCall, listed}
 
--- `setup(c)` gave d₀, and `partial_setup(c, count)` gave d.
+-- `setup(n, l, g, b)` gave d₀, and `partial_setup(n, l, g, b, count)` gave d; c is the setup of the four numbers, which closes none.
 pub record Ordered (c : Setup) (count : ℕ) (d₀ d : Done) : Type 0 where
   -- A second form takes a count too, any number, refuses as the setup does,
   pub refused : d₀ .answer ≢ 0 → d ≡ done (d₀ .answer) blank
@@ -27,7 +28,7 @@ pub record Ordered (c : Setup) (count : ℕ) (d₀ d : Done) : Type 0 where
   -- From L - 1 on, its result is the setup's number for number.
   pub whole : c .leaves ≤ count + 1 → d ≡ d₀
   -- Counters from node L - 1 up to node 1: a count more fills the counter of node L - 1 - count, and changes no other number.
-  pub next : d₀ .answer ≡ 0 → count + 1 < c .leaves → (d₁ : Done) → PartlySetUp c (count + 1) d₁
+  pub next : d₀ .answer ≡ 0 → count + 1 < c .leaves → (d₁ : Done) → PartlySetUp (c .processes) (c .leaves) (c .segments) (c .bits) (count + 1) d₁
       → d₁ .state ≡ withCounter (c .leaves - 1 - count) (counterAt (d₀ .state) (c .leaves - 1 - count)) (d .state)
   -- From a smaller count's state no list statement starts: it is not the setup's,
   pub smaller : d₀ .answer ≡ 0 → count + 1 < c .leaves → d .state ≢ d₀ .state
@@ -38,4 +39,5 @@ pub record Ordered (c : Setup) (count : ℕ) (d₀ d : Done) : Type 0 where
       → r ≡ done 0 (after (d .state) (listed l))
 
 abbrev pub EveryPartialSetup : Type 0
-EveryPartialSetup = (c : Setup) (count : ℕ) (d₀ d : Done) → SetUp c d₀ → PartlySetUp c count d → Ordered c count d₀ d
+EveryPartialSetup =
+    (n l g b count : ℕ) (d₀ d : Done) → SetUp n l g b d₀ → PartlySetUp n l g b count d → Ordered (plain n l g b) count d₀ d

@@ -12,15 +12,15 @@ use Rattle.machine.specs.State.{processAt, fresh}
 use Rattle.machine.specs.declared.Done.{Done}
 use Rattle.machine.specs.declared.Setup.{Setup}
 use Rattle.machine.specs.declared.State.{State}
-use Rattle.renaming_claim.specs.Claim.{Claim, afterList}
+use Rattle.renaming_claim.specs.Claim.{Claim, NoneClosed, afterList}
 use Rattle.renaming_claim.specs.History.{stepsGiven, HoldsWithin}
-use Rattle.whole_list.specs.Calls.{SetUp, ListCall, listed, Calls, stateAt, entriesOf}
+use Rattle.whole_list.specs.Calls.{Made, ListCall, listed, Calls, stateAt, entriesOf}
 
 -- the chain's state after a prefix of its events: what a call gave there or, inside a list, what the list's events give
 abbrev pub ownState : State → List Done → List Event → State
 ownState s ds es = stateAt s ds (length es)
 
--- A setup gave a state s, calls of the events followed, single ones and lists, and gave the results and the state t.
+-- A setup c gave a state s, calls of the events followed, single ones and lists, and gave the results and the state t.
 pub record Whole (c : Setup) (s : State) (es : List Event) (ds : List Done) (t : State) : Type 0 where
   -- Each event's answer, the state after each and the last state are the machine's, fed the setup and the events alone.
   pub answered : map (λ (d : Done). d .answer) ds ≡ answers (fresh c) es
@@ -28,6 +28,8 @@ pub record Whole (c : Setup) (s : State) (es : List Event) (ds : List Done) (t :
   pub last : t ≡ afterList c es
   -- The claim holds of the chain's own states, after every event.
   pub claims : (i : ℕ) → Claim c (ownState s ds) (take i es)
+  -- Where the setup closed none, as `setup` does, it holds in demand 3's own words.
+  pub none-closed : c .closed ≡ 0 → (i : ℕ) → NoneClosed c (ownState s ds) (take i es)
   -- Calls that follow make one chain with these.
   pub joins : (fs : List Event) (gs : List Done) (u : State) → Calls t fs gs u → Calls s (es ++ fs) (ds ++ gs) u
   -- Whatever calls follow, once a process that is in getname in the state t has been given h + g more steps, it held a name directly
@@ -45,10 +47,10 @@ pub record Listed (s : State) (d : Done) (c : ListCall s d) : Type 0 where
   pub kept : d .answer ≢ 0 → d .state ≡ s
   pub untouched : d .answer ≢ 0 → now (c .journal′) ≡ now (c .journal)
 
--- Demand 3 of the calls: every chain of calls from the state that an accepted setup gave is whole.
+-- Demand 3 of the calls: every chain of calls from the state that an accepted setup gave, with closed names or without, is whole.
 abbrev pub EveryChain : Type 0
 EveryChain =
-    (c : Setup) (d₀ : Done) → SetUp c d₀ → d₀ .answer ≡ 0
+    (c : Setup) (d₀ : Done) → Made c d₀ → d₀ .answer ≡ 0
     → (es : List Event) (ds : List Done) (t : State) → Calls (d₀ .state) es ds t → Whole c (d₀ .state) es ds t
 
 -- and every call of a list does what the calls of its events do.

@@ -9,7 +9,7 @@ use Rattle.machine.specs.Check.{checked}
 use Rattle.machine.specs.Event.{event}
 use Rattle.machine.specs.Filled.{writtenOf}
 use Rattle.machine.specs.Range.{inRange}
-use Rattle.machine.specs.Setup.{plain, within, isLeaves, setupChecks}
+use Rattle.machine.specs.Setup.{numbered, plain, within, isLeaves, setupChecks}
 use Rattle.machine.specs.State.{done, fresh, blank, setup, partial, partialSetup}
 use Rattle.machine.specs.declared.Setup.{Setup}
 use Rattle.machine.specs.declared.State.{State}
@@ -35,27 +35,28 @@ unfolding isLeaves
 large-no-leaves x k =
     rw (ne-eqb x 1 (omega arith), ne-eqb x 2 (omega arith), ne-eqb x 4 (omega arith), ne-eqb x 8 (omega arith), ne-eqb x 16 (omega arith))
 
--- each number of a setup is refused by its own check, whatever the others are and whatever comes after these checks
-module _ {A : Type 0} (refuse : ℕ → A) (accept : Setup → A) where
+-- each number of a setup is refused by its own check, whatever the others and the closed names are and whatever comes after these checks
+module _ {A : Type 0} (refuse : ℕ → A) (accept : Setup → A) (w : ℕ) where
   abbrev by-checks : Setup → A
   by-checks c = checked (setupChecks c) refuse (accept c)
 
-  checks-narrowed : (n l g b : ℕ) → by-checks (plain (narrow n) (narrow l) (narrow g) (narrow b)) ≡ by-checks (plain n l g b)
+  checks-narrowed : (n l g b : ℕ) → by-checks (numbered (narrow n) (narrow l) (narrow g) (narrow b) w) ≡ by-checks (numbered n l g b w)
   unfolding isLeaves
   checks-narrowed n l g b =
-      narrowed-same (λ x. by-checks (plain x (narrow l) (narrow g) (narrow b))) (λ x k. rw (large-outside 64 x (omega arith) k)) n
-      ∙ narrowed-same (λ x. by-checks (plain n x (narrow g) (narrow b))) (λ x k. rw (large-no-leaves x k)) l
-      ∙ narrowed-same (λ x. by-checks (plain n l x (narrow b))) (λ x k. rw (large-outside 8 x (omega arith) k)) g
-      ∙ narrowed-same (λ x. by-checks (plain n l g x)) (λ x k. rw (large-outside 8 x (omega arith) k)) b
+      narrowed-same (λ x. by-checks (numbered x (narrow l) (narrow g) (narrow b) w)) (λ x k. rw (large-outside 64 x (omega arith) k)) n
+      ∙ narrowed-same (λ x. by-checks (numbered n x (narrow g) (narrow b) w)) (λ x k. rw (large-no-leaves x k)) l
+      ∙ narrowed-same (λ x. by-checks (numbered n l x (narrow b) w)) (λ x k. rw (large-outside 8 x (omega arith) k)) g
+      ∙ narrowed-same (λ x. by-checks (numbered n l g x w)) (λ x k. rw (large-outside 8 x (omega arith) k)) b
 
-pub setup-narrowed : (n l g b : ℕ) → setup (plain (narrow n) (narrow l) (narrow g) (narrow b)) ≡ setup (plain n l g b)
+-- with closed names, or with none
+pub setup-narrowed : (w n l g b : ℕ) → setup (numbered (narrow n) (narrow l) (narrow g) (narrow b) w) ≡ setup (numbered n l g b w)
 unfolding setup
 setup-narrowed = checks-narrowed (λ a. done a blank) (λ c. done 0 (fresh c))
 
 pub partial-narrowed : (n l g b count : ℕ)
     → partialSetup (plain (narrow n) (narrow l) (narrow g) (narrow b)) count ≡ partialSetup (plain n l g b) count
 unfolding partialSetup
-partial-narrowed n l g b count = checks-narrowed (λ a. done a blank) (λ c. done 0 (partial c count)) n l g b
+partial-narrowed n l g b count = checks-narrowed (λ a. done a blank) (λ c. done 0 (partial c count)) 0 n l g b
 
 module _ (n l g b : ℕ) (events lent : List ℕ) where
   abbrev later : {A : Type 0} → (ℕ → A) → A → A
@@ -64,13 +65,13 @@ module _ (n l g b : ℕ) (events lent : List ℕ) where
   pub write-narrowed : writeFile (plain (narrow n) (narrow l) (narrow g) (narrow b)) events lent ≡ writeFile (plain n l g b) events lent
   unfolding writeFile
   write-narrowed =
-      checks-narrowed (λ a. writtenOf a 0) (λ c. later (λ a. writtenOf a 0) (writtenOf 0 (length (fileBytes c events)))) n l g b
+      checks-narrowed (λ a. writtenOf a 0) (λ c. later (λ a. writtenOf a 0) (writtenOf 0 (length (fileBytes c events)))) 0 n l g b
 
   pub buffer-narrowed :
       writeBuffer (plain (narrow n) (narrow l) (narrow g) (narrow b)) events lent ≡ writeBuffer (plain n l g b) events lent
   unfolding writeBuffer
   buffer-narrowed =
-      checks-narrowed (λ a. lent) (λ c. later (λ a. lent) (fileBytes c events ++ drop (length (fileBytes c events)) lent)) n l g b
+      checks-narrowed (λ a. lent) (λ c. later (λ a. lent) (fileBytes c events ++ drop (length (fileBytes c events)) lent)) 0 n l g b
 
 -- the check of the buffer is the same for every setup
 module _ (n l g b : ℕ) (lent : List ℕ) where
@@ -81,13 +82,13 @@ module _ (n l g b : ℕ) (lent : List ℕ) where
   unfolding dearestList
   dearest-narrowed =
       checks-narrowed (λ a. dearestOf a 0 0)
-      (λ c. small (λ a. dearestOf a 0 0) (dearestOf 0 (dearestFigure c) (length (dearestBytes c)))) n l g b
+      (λ c. small (λ a. dearestOf a 0 0) (dearestOf 0 (dearestFigure c) (length (dearestBytes c)))) 0 n l g b
 
   pub dearest-buffer-narrowed :
       dearestBuffer (plain (narrow n) (narrow l) (narrow g) (narrow b)) lent ≡ dearestBuffer (plain n l g b) lent
   unfolding dearestBuffer
   dearest-buffer-narrowed =
-      checks-narrowed (λ a. lent) (λ c. small (λ a. lent) (dearestBytes c ++ drop (length (dearestBytes c)) lent)) n l g b
+      checks-narrowed (λ a. lent) (λ c. small (λ a. lent) (dearestBytes c ++ drop (length (dearestBytes c)) lent)) 0 n l g b
 
 large-kind : (s : State) (p x : ℕ) → 255 < x → event s 255 p ≡ event s x p
 unfolding event

@@ -16,5 +16,6 @@ pub extern "C" fn zevgorim_dearest_list(
     ensures { λ r. ⌜ (r ≡ dearestList (plain n l g b) (now (out .entry)))
         × (now (out .exit) ≡ dearestBuffer (plain n l g b) (now (out .entry))) ⌝ }
 {
-    dearest::dearest_list(narrow::setup_of(n, l, g, b), out)
+    let four = narrow::setup_of(n, l, g, b);
+    dearest::dearest_list(four.processes, four.leaves, four.segments, four.bits, out)
 }

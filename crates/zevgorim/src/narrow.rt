@@ -1,4 +1,5 @@
 // C's 32-bit numbers, for calls that take bytes.
+use fresh::limits;
 use machine::Setup;
 ghost use mathlib.Core.Path.{_≡_};
 ghost use Rattle.machine.specs.Setup.{plain};
@@ -14,14 +15,9 @@ pub(crate) fn narrowed(x: u32) -> u8
     x as u8
 }
 
-// The setup of four numbers.
+// The setup of four numbers, which closes none.
 pub(crate) fn setup_of(n: u32, l: u32, g: u32, b: u32) -> Setup
     ensures { λ r. ⌜ r ≡ plain (narrow n) (narrow l) (narrow g) (narrow b) ⌝ }
 {
-    Setup {
-        processes: narrowed(n),
-        leaves: narrowed(l),
-        segments: narrowed(g),
-        bits: narrowed(b),
-    }
+    limits::setup_of(narrowed(n), narrowed(l), narrowed(g), narrowed(b), 0)
 }

@@ -14,21 +14,38 @@ ghost use Rattle.machine.specs.Event;
 ghost use Rattle.machine.specs.Kind;
 ghost use Rattle.machine.specs.Lists;
 ghost use Rattle.machine.specs.Reports;
-ghost use Rattle.machine.specs.Setup.{plain};
+ghost use Rattle.machine.specs.Setup.{given, plain};
 ghost use Rattle.machine.specs.State.{setup as State·setup, partialSetup};
 
 #[no_mangle]
 pub extern "C" fn zevgorim_setup(n: u32, l: u32, g: u32, b: u32) -> Done
     ensures { λ r. ⌜ r ≡ State·setup (plain n l g b) ⌝ }
 {
-    setup::setup(narrow::setup_of(n, l, g, b))
+    let four = narrow::setup_of(n, l, g, b);
+    setup::setup(four.processes, four.leaves, four.segments, four.bits)
 }
 
 #[no_mangle]
 pub extern "C" fn zevgorim_partial_setup(n: u32, l: u32, g: u32, b: u32, count: u64) -> Done
     ensures { λ r. ⌜ r ≡ partialSetup (plain n l g b) count ⌝ }
 {
-    setup::partial_setup(narrow::setup_of(n, l, g, b), count)
+    let four = narrow::setup_of(n, l, g, b);
+    setup::partial_setup(four.processes, four.leaves, four.segments, four.bits, count)
+}
+
+// The closed names are bytes already.
+#[no_mangle]
+pub extern "C" fn zevgorim_closed_setup(n: u32, l: u32, g: u32, b: u32, closed: &[u8]) -> Done
+    ensures { λ r. ⌜ r ≡ State·setup (given n l g b (now (closed .entry))) ⌝ }
+{
+    let four = narrow::setup_of(n, l, g, b);
+    setup::closed_setup(
+        four.processes,
+        four.leaves,
+        four.segments,
+        four.bits,
+        closed,
+    )
 }
 
 #[no_mangle]

@@ -1,4 +1,4 @@
--- `dearest_list` meets its contract: refused by its checks and nothing written, or the figure and the claims up to the dear process's.
+-- `list_of` meets its contract: refused by its checks and nothing written, or the figure and the claims up to the dear process's.
 -- Assumes nothing.
 use Prim.Native.Nat.{ℕ, suc, _+_, _*_, _-_, _≤_}
 use native.Mathlib.Numerals.{add-one}
@@ -13,8 +13,8 @@ use Rattle.dearest_claim.specs.Dearest.{tried, claims, dear, dearestBytes, dear
 use Rattle.dearest_claim.proofs.Call.{passed-setup, passed-buffer, refused-list, accepted-list}
 use Rattle.dearest_claim.proofs.Sizes.{dear-known, figure-byte}
 use Rattle.dearest.proofs.Writing.{claims-fit}
-use Rattle.dearest.proofs.dearest_list.Statement.{statement}
-use Rattle.dearest.proofs.dearest_list.Tie as tie
+use Rattle.dearest.proofs.list_of.Statement.{statement}
+use Rattle.dearest.proofs.list_of.Tie as tie
 
 returns : tie.Need-returns
 returns c =
@@ -76,8 +76,8 @@ returns-2 c =
           ∙ gave .1,
     )
 
-pub dearest-list-spec : {M : Type 1} → statement M
-dearest-list-spec =
+pub list-of-spec : {M : Type 1} → statement M
+list-of-spec =
     tie.close
     (tie.spec
     -- a refusal

@@ -1,7 +1,7 @@
 -- What holds of each of the five numbers of leaves, and of the tree's nodes: one computed test each, and the law that it gives.
 --     by-leaves     a test that 1, 2, 4, 8 and 16 pass, passed by every accepted number of leaves
 --     height-is     2^h = L
---     level-high    2^(d+1) is at most L, where d is the depth of a node below L
+--     width-level    the leaves under a left child are 1 in 2^(d+1), where d is the depth of its parent
 --     depth-root, depth-left, depth-right    node 1 has depth 0, and a child lies one level below its parent
 -- Assumes nothing.
 use Prim.Native.Nat.{ℕ, _+_, _*_, _^_, _≤_, _<_}
@@ -10,6 +10,7 @@ use lib.Dec.{eqb, ltb, leb}
 use Rattle.machine.proofs.Rules.{_≡_, refl, true, cond, Bool, _&&_, _||_, false≢true, arith, lt-ltb, eqb-true, ne-eqb, leb-true}
 use Rattle.machine.specs.Below.{allBelow}
 use Rattle.machine.specs.Setup.{isLeaves, log2, height}
+use Rattle.machine.specs.State.{width}
 use Rattle.machine.proofs.Facts.Tests.{and-left, and-right}
 use Rattle.machine.proofs.Facts.Below.{all-at}
 
@@ -55,19 +56,19 @@ unfolding powerIs
 height-is l e = eqb-true (2 ^ height l) l (by-leaves powerIs powers l e)
 
 -- of each node below L, but for 0
-levelsFit : ℕ → Bool
-levelsFit l = allBelow l (λ v. eqb v 0 || leb (2 ^ (log2 v + 1)) l)
+sharesAre : ℕ → Bool
+sharesAre l = allBelow l (λ v. eqb v 0 || eqb (width l (2 * v) * 2 ^ (log2 v + 1)) l)
 
-fitting : allBelow 17 (ofLeaves levelsFit) ≡ true
-unfolding allBelow isLeaves levelsFit log2
-fitting = refl
+shares : allBelow 17 (ofLeaves sharesAre) ≡ true
+unfolding allBelow isLeaves sharesAre width log2
+shares = refl
 
-pub level-high : (l v : ℕ) → isLeaves l ≡ true → 0 < v → v < l → 2 ^ (log2 v + 1) ≤ l
-unfolding levelsFit
-level-high l v e low k =
-    leb-true (2 ^ (log2 v + 1)) l
+pub width-level : (l v : ℕ) → isLeaves l ≡ true → 0 < v → v < l → width l (2 * v) * 2 ^ (log2 v + 1) ≡ l
+unfolding sharesAre
+width-level l v e low k =
+    eqb-true _ l
     (rw (ne-eqb v 0 (omega arith)) at
-    (all-at l (λ u. eqb u 0 || leb (2 ^ (log2 u + 1)) l) (by-leaves levelsFit fitting l e) v k))
+    (all-at l (λ u. eqb u 0 || eqb (width l (2 * u) * 2 ^ (log2 u + 1)) l) (by-leaves sharesAre shares l e) v k))
 
 -- the children of node v, if it is one
 below : ℕ → Bool

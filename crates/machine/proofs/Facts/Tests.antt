@@ -22,6 +22,12 @@ and-left a b e = and-eq-true-iff a b .0 e .0
 pub and-right : (a b : Bool) → (a && b) ≡ true → b ≡ true
 and-right a b e = and-eq-true-iff a b .0 e .1
 
+pub and-comm : (a b : Bool) → (a && b) ≡ (b && a)
+and-comm true true = refl
+and-comm true false = refl
+and-comm false true = refl
+and-comm false false = refl
+
 pub all-of : (ts : List Bool) → allOf ts ≡ true → (i : ℕ) → getD ts i true ≡ true
 all-of [] e i = refl
 all-of (t ∷ ts) e zero = and-left t (allOf ts) e

@@ -1,17 +1,17 @@
--- The fresh state of every accepted setup is in range, with no counter at 0, and the blank state is not: number by number, and by
--- computation. Assumes nothing.
-use Prim.Native.Nat.{ℕ, _+_, _*_, _≤_, _<_}
-use native.Mathlib.Nat.{le-div-iff-mul-le, mul-le-mul-left}
+-- The fresh state of every accepted setup is in range, and the blank state is not: number by number, and by computation.
+-- Assumes nothing.
+use Prim.Native.Nat.{ℕ, _<_}
+use native.Mathlib.Nat.{zero-div}
 use lib.Pow.{pow-pos}
 use Rattle.machine.proofs.Rules.{_≡_, _∙_, refl, true, false, arith, lt-ltb, le-leb}
-use Rattle.machine.specs.Setup.{names, setupAnswer}
-use Rattle.machine.specs.State.{noProcess, freshProcess, depth, freshCounter, freshCounterAt}
+use Rattle.machine.specs.Setup.{openNames, setupAnswer}
+use Rattle.machine.specs.State.{noProcess, freshProcess, freshCounter, freshCounterAt}
 use Rattle.machine.specs.State.{freshProcessAt, processAt, counterAt, fresh, blank}
 use Rattle.machine.specs.Range.{gateInRange, inRange}
 use Rattle.machine.specs.declared.Setup.{Setup}
 use Rattle.machine.proofs.Facts.Below.{getD-tabulate, getD-constant}
-use Rattle.machine.proofs.Facts.Leaves.{leaves-high, level-high}
-use Rattle.machine.proofs.Ranges.{Limits, limits-of, in-range}
+use Rattle.machine.proofs.Facts.Leaves.{leaves-high}
+use Rattle.machine.proofs.Ranges.{Limits, limits-of, closed-of, in-range}
 use Rattle.machine.proofs.Stores.{fresh-process}
 
 pub fresh-at : (c : Setup) (v : ℕ) → 0 < v → v < c .leaves → freshCounterAt c v ≡ freshCounter c v
@@ -27,12 +27,6 @@ module _ (c : Setup) (accepted : setupAnswer c ≡ 0) where
   counter-fresh v low k =
       getD-tabulate 16 (freshCounterAt c) v 0 (omega (arith, leaves-high (c .leaves) (limits .leaves))) ∙ fresh-at c v low k
 
-  pub counter-low : (v : ℕ) → 0 < v → v < c .leaves → 1 ≤ freshCounter c v
-  counter-low v low k =
-      let rows = mul-le-mul-left (c .leaves) (limits .g1) in
-      let all = mul-le-mul-left (c .leaves * c .segments) (limits .b1) in
-      le-div-iff-mul-le (pow-pos (depth v + 1)) .1 (omega (arith, rows, all, level-high (c .leaves) v (limits .leaves) low k))
-
   pub process-fresh : (p : ℕ) → p < c .processes → processAt (fresh c) p ≡ freshProcess
   unfolding fresh freshProcessAt
   process-fresh p k =
@@ -44,10 +38,11 @@ module _ (c : Setup) (accepted : setupAnswer c ≡ 0) where
       in-range (fresh c)
       (record {
         limits = limits;
-        gate = le-leb (names c) (names c) (omega arith);
+        closed = closed-of c accepted;
+        gate = le-leb (openNames c) (openNames c) (omega arith);
         queue = record { size = omega arith; entries = λ i k. absurd (omega arith); zeros = λ i _ _. getD-constant {A = ℕ} 64 i 0 };
         counters = λ v low k. rw (counter-fresh v low k) (omega arith);
-        words = λ r k. rw (getD-constant {A = ℕ} 64 r 0) (pow-pos (c .bits));
+        words = λ r k. rw (getD-constant {A = ℕ} 64 r 0) (record { size = pow-pos (c .bits); shut = λ i _ _. rw zero-div });
         process = λ p k. rw (process-fresh p k) (fresh-process limits);
       })
 

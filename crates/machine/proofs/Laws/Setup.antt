@@ -1,8 +1,9 @@
--- A setup, in either form, gives its state when it is accepted, and its number and the blank state when it is refused: its checks decide,
+-- A setup, in every form, gives its state when it is accepted, and its number and the blank state when it is refused: its checks decide,
 -- whatever they decide between. Assumes nothing.
 use Prim.Native.Nat.{ℕ}
 use mathlib.Core.Path.{_≡_, refl}
-use Rattle.machine.specs.Setup.{setupChecks, setupAnswer}
+use Rattle.machine.specs.Check.{checked}
+use Rattle.machine.specs.Setup.{numberChecks, closedChecks, setupChecks, numberAnswer, setupAnswer}
 use Rattle.machine.specs.State.{done, fresh, blank, partial, setupGiving, setup, partialSetup}
 use Rattle.machine.specs.declared.Done.{Done}
 use Rattle.machine.specs.declared.Setup.{Setup}
@@ -23,6 +24,15 @@ module _ (c : Setup) (s : State) where
   giving-accepted e = accepted-with (setupChecks c) (λ a. done a blank) (done 0 s) refl e
 
 module _ (c : Setup) where
+  -- refused by its four numbers, or past them what its closed names decide
+  pub numbers-refused : (numberAnswer c ≡ 0 → ⊥) → setupAnswer c ≡ numberAnswer c
+  unfolding numberAnswer setupAnswer
+  numbers-refused d = refused-with (numberChecks c) (λ a. a) (checked (closedChecks c) (λ a. a) 0) d
+
+  pub numbers-passed : numberAnswer c ≡ 0 → setupAnswer c ≡ checked (closedChecks c) (λ a. a) 0
+  unfolding numberAnswer setupAnswer
+  numbers-passed e = accepted-with (numberChecks c) (λ a. a) (checked (closedChecks c) (λ a. a) 0) refl e
+
   pub setup-answers : setup c .answer ≡ setupAnswer c
   unfolding setup
   setup-answers = giving-answers c (fresh c)

@@ -8,12 +8,15 @@ use native.Mathlib.Decide.{ℕ-discrete}
 use lib.Dec.{eqb, ltb, leb}
 use lib.IntN.{ℤ, sucℤ}
 use lib.ListN.{getD, set}
-use Rattle.machine.proofs.Rules.{_≡_, ap, refl, true, false, cond, Bool, arith, eq-eqb, ltb-false, ltb-true, eqb-false}
+use Rattle.machine.proofs.Rules.{_≡_, ap, refl, true, false, cond, Bool, _||_, arith, eq-eqb, ltb-false, ltb-true, eqb-false}
+use Rattle.machine.specs.Below.{allBelow}
 use Rattle.machine.specs.Event.{refused, request, release, guarded, stages, stay, step, kinds, event}
 use Rattle.machine.specs.Gate.{above0, inQueue, movedUp, headGone, enter, await, leave}
 use Rattle.machine.specs.Getname.{segmentOf, descend, probe, getnameStep}
 use Rattle.machine.specs.Putname.{giveBack, climb, putnameStep}
-use Rattle.machine.specs.Range.{counterTest, wordTest, processTest, inRange, ProcessRanges}
+use Rattle.machine.specs.Closed.{isOpen}
+use Rattle.machine.specs.Operations.{bit}
+use Rattle.machine.specs.Range.{counterTest, wordTest, closedTest, processTest, inRange, ProcessRanges}
 use Rattle.machine.specs.Stage.{remainder, waiting, getname, working}
 use Rattle.machine.specs.State.{done, none, noProcess, withStage, withSegment, processAt}
 use Rattle.machine.specs.State.{counterAt, withGate, withQueue, withCounter, withWord, withProcess, update}
@@ -65,6 +68,8 @@ range-alike {s} (alike x k) =
           (λ v l. counter-same v l (ℕ-discrete v 0)),
       all-same (c .leaves * c .segments) (wordTest c (x .words)) (wordTest c (s .words))
           (λ r l. ap (λ (w : ℕ). ltb w (2 ^ c .bits)) (k .words .at r l)),
+      all-same (c .leaves * c .segments) (closedTest c (x .words)) (closedTest c (s .words))
+          (λ r l. ap (λ (w : ℕ). allBelow (c .bits) (λ i. isOpen c (r * c .bits + i) || eqb (bit w i) 0)) (k .words .at r l)),
       all-same (c .processes) (λ p. processTest c (getD (x .process) p noProcess)) (λ p. processTest c (processAt s p))
           (λ p l. ap (processTest c) (k .process .at p l)),
     )

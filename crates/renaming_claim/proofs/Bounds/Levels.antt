@@ -13,12 +13,14 @@ use lib.ListN.{getD, set}
 use lib.Seq.{getD-set-same, getD-set-other}
 use Rattle.machine.proofs.Rules.{_≡_, _∙_, refl, arith, eq-eqb, ne-eqb}
 use Rattle.machine.specs.Below.{sumBelow, indicator as ind}
+use Rattle.machine.specs.Closed.{rank}
+use Rattle.machine.specs.Setup.{openNames}
 use Rattle.machine.specs.Stage.{getname}
 use Rattle.machine.specs.State.{counterAt}
 use Rattle.renaming_claim.proofs.Bounds.{bounds-move}
 use Rattle.renaming_claim.proofs.Facts.Sums.{sum-with-one}
 use Rattle.renaming_claim.proofs.Facts.Tree.{under, down, under-self, under-up, under-root}
-use Rattle.renaming_claim.proofs.Invariant.{tally, rank, allOpen, inSubtree, inSegments, SubtreeBound, Bounds}
+use Rattle.renaming_claim.proofs.Invariant.{tally, inSubtree, inSegments, SubtreeBound, Bounds}
 use Rattle.renaming_claim.proofs.Mover.{Setup, Process, State, processAt, Mover, inv, in-range}
 use Rattle.renaming_claim.proofs.Mover.{own-range, limits, leaves-16, counters-fit, stored, counts-grow}
 use Rattle.renaming_claim.proofs.Regions.{first-left, open-both, rank-right, first-root, count-root, subtree-busy}
@@ -80,7 +82,7 @@ module _ {M : ℕ} {s : State} {p : ℕ} (m : Mover M s p) where
         (λ w w0 l. omega (arith, back w, e (2 * w) (omega arith) (omega arith)))
 
     pub bounds-enter : h .stage < getname → getname ≤ x .stage → x .node ≡ 1 → x .segment ≡ 0
-        → tally c (inSubtree 1) (stored m x) ≤ allOpen c → tally c (inSubtree 1) (stored m x) ≤ M → Bounds c M (stored m x) cs
+        → tally c (inSubtree 1) (stored m x) ≤ openNames c → tally c (inSubtree 1) (stored m x) ≤ M → Bounds c M (stored m x) cs
     bounds-enter out busy e flat within withinM =
         let rank-zero : rank c 0 ≡ 0 = unfold rank sumBelow in refl in
         enters 1 cs (root-enters h x out busy e) flat

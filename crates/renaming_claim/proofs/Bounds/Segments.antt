@@ -11,6 +11,7 @@ use native.Mathlib.Decide.{ℕ-discrete, decLt}
 use lib.Arith.{digits-lt}
 use Rattle.machine.proofs.Rules.{_≡_, _≢_, arith}
 use Rattle.machine.specs.Below.{indicator as ind}
+use Rattle.machine.specs.Closed.{openIn, rank}
 use Rattle.machine.specs.Getname.{segmentOf}
 use Rattle.machine.specs.Stage.{getname}
 use Rattle.machine.specs.State.{none}
@@ -18,7 +19,7 @@ use Rattle.machine.proofs.Places.{leaf-segment}
 use Rattle.renaming_claim.proofs.Bits.{word-of, bit-of, Filled, filled}
 use Rattle.renaming_claim.proofs.Bounds.{segment-bound, bound-keeps, counters-move}
 use Rattle.renaming_claim.proofs.Facts.Sums.{sum-with-one, hits, hits-le, hits-out}
-use Rattle.renaming_claim.proofs.Invariant.{tally, openIn, rank, words, segmentCount, inSubtree}
+use Rattle.renaming_claim.proofs.Invariant.{tally, words, segmentCount, inSubtree}
 use Rattle.renaming_claim.proofs.Invariant.{inSegments, Stands, SegmentBound, Bounds}
 use Rattle.renaming_claim.proofs.Mover.{Setup, Process, State, processAt, Mover, inv, by-stage}
 use Rattle.renaming_claim.proofs.Mover.{in-range, own-range, limits, stored, counts-grow}

@@ -2,17 +2,17 @@
 --     under            node v lies in the subtree of u
 --     down, pair       a node lies in its own subtree and where its parent does; the children's subtrees are apart
 --     under-self, under-up, under-root    a node, a node above it, and node 1
---     width, firstLeaf    the leaves under a node
---     width-both, width-level, first-left, first-right    those of the children
+--     width-both, first-left, first-right    the leaves under the children of a node
 --     width-leaf, first-leaf, width-root, first-root      those of a leaf and of node 1
 --     depth-up         a parent lies one level above its child
 --     depth-le, leaf-level, height-four    no node lies deeper than a leaf, and a leaf at most four levels down
 -- Assumes nothing.
-use Prim.Native.Nat.{ℕ, _+_, _*_, _-_, _/_, _^_, _≤_, _<_}
+use Prim.Native.Nat.{ℕ, _+_, _*_, _/_, _≤_, _<_}
 use lib.Dec.{eqb, ltb, leb}
 use Rattle.machine.proofs.Rules.{_≡_, _∙_, refl, true, _||_, Bool, arith, lt-ltb, eq-eqb, eqb-true, ne-eqb, leb-true}
 use Rattle.machine.specs.Below.{allBelow, indicator as ind}
 use Rattle.machine.specs.Setup.{isLeaves, log2, height}
+use Rattle.machine.specs.State.{width, firstLeaf}
 use Rattle.machine.proofs.Facts.Leaves.{by-leaves, leaves-high}
 use Rattle.renaming_claim.proofs.Facts.Computed.{_⊓_, _⇒_, meet, computed}
 
@@ -54,13 +54,6 @@ depth-up w w1 w32 =
     (computed 1 32 (λ _ w. ltb 1 w) (λ _ w. eqb (log2 (w / 2) + 1) (log2 w)) (unfold allBelow _⇒_ log2 in refl) 0 w (omega arith) w32
     (lt-ltb 1 w w1))
 
--- how many leaves lie under a node, of l, and the first of them
-unfoldable pub width : ℕ → ℕ → ℕ
-width l u = l / 2 ^ log2 u
-
-unfoldable pub firstLeaf : ℕ → ℕ → ℕ
-firstLeaf l u = (u - 2 ^ log2 u) * width l u
-
 module _ (l : ℕ) (e : isLeaves l ≡ true) where
   small : l ≤ 16
   small = leaves-high l e
@@ -76,9 +69,6 @@ module _ (l : ℕ) (e : isLeaves l ≡ true) where
 
     pub width-both : width l v ≡ width l (2 * v) + width l (2 * v + 1)
     width-both = inner width (λ l v. width l (2 * v) + width l (2 * v + 1)) (unfold allBelow _⊓_ _⇒_ isLeaves width log2 in refl)
-
-    pub width-level : width l (2 * v) * 2 ^ (log2 v + 1) ≡ l
-    width-level = inner (λ l v. width l (2 * v) * 2 ^ (log2 v + 1)) (λ l v. l) (unfold allBelow _⊓_ _⇒_ isLeaves width log2 in refl)
 
     pub first-left : firstLeaf l (2 * v) ≡ firstLeaf l v
     first-left = inner (λ l v. firstLeaf l (2 * v)) firstLeaf (unfold allBelow _⊓_ _⇒_ isLeaves width firstLeaf log2 in refl)

@@ -5,9 +5,11 @@ use lib.Arith.{digits-lt}
 use lib.Dec.{eqb, ltb}
 use lib.ListN.{set}
 use lib.Seq.{set-getD}
-use Rattle.machine.proofs.Rules.{_≡_, _∙_, ap, refl, arith, lt-ltb, le-ltb, eqb-true, ltb-false, ltb-true}
+use Rattle.machine.proofs.Rules.{_≡_, _∙_, ap, refl, Bool, true, false, arith, lt-ltb, le-ltb, eqb-true, ltb-false, ltb-true}
+use Rattle.machine.specs.Below.{indicator as ind}
+use Rattle.machine.specs.Closed.{isOpen, closedWord}
 use Rattle.machine.specs.Getname.{claimed, side, outcome, segmentOf, descend, probe, getnameStep}
-use Rattle.machine.specs.Operations.{firstZero, setFirstZero, boundedDecrement}
+use Rattle.machine.specs.Operations.{bit, firstZero, setFirstZero, boundedDecrement}
 use Rattle.machine.specs.Setup.{log2, height}
 use Rattle.machine.specs.Stage.{getname}
 use Rattle.machine.specs.State.{counterAt, wordAt, withCounter, withWord, update}
@@ -15,7 +17,8 @@ use Rattle.machine.specs.declared.ClaimStep.{ClaimStep}
 use Rattle.machine.specs.declared.ClaimStep.the-variants.{Left, Won, NextSegment}
 use Rattle.machine.proofs.Facts.Leaves.{depth-left, depth-right}
 use Rattle.machine.proofs.Facts.Tests.{by-cond}
-use Rattle.machine.proofs.Facts.Words.{first-zero-clear, first-zero-below}
+use Rattle.machine.proofs.Closed.{closed-word, open-bit}
+use Rattle.machine.proofs.Facts.Words.{first-zero-le, first-zero-clear, first-zero-below}
 use Rattle.machine.proofs.Places.{leaf-segment}
 use Rattle.renaming_claim.proofs.Bits.{Filled, bits-same, bits-win}
 use Rattle.renaming_claim.proofs.Bounds.{stays-put}
@@ -24,7 +27,7 @@ use Rattle.renaming_claim.proofs.Bounds.Segments.{low-name, not-last, b
 use Rattle.renaming_claim.proofs.Cost.{claiming, one-more}
 use Rattle.renaming_claim.proofs.Facts.Tree.{leaf-level}
 use Rattle.renaming_claim.proofs.Gate.{gate-past}
-use Rattle.renaming_claim.proofs.Invariant.{isOpen, words, Bounds, Invariant}
+use Rattle.renaming_claim.proofs.Invariant.{words, Bounds, Invariant}
 use Rattle.renaming_claim.proofs.Mover.{Setup, Process, State, processAt, Mover, own-range}
 use Rattle.renaming_claim.proofs.Mover.{limits, leaves-16, stored, shapes-set, shapes-nameless}
 
@@ -96,12 +99,16 @@ module _ {M : ℕ} {s : State} {p : ℕ} (m : Mover M s p) (st : processAt s p .
     abbrev w : ℕ
     w = wordAt s r
 
+    -- its closed bits, and the first clear one that is not closed
+    abbrev x : ℕ
+    x = closedWord c r
+
     abbrev f : ℕ
-    f = firstZero (c .bits) w
+    f = firstZero (c .bits) x w
 
     -- the state after a step at the leaf
     abbrev probed : ClaimStep → State
-    probed k = update p (claimed k) (withWord r (setFirstZero (c .bits) w .word) s)
+    probed k = update p (claimed k) (withWord r (setFirstZero (c .bits) x w .word) s)
 
     r-used : r < words c
     r-used = leaf-segment (own-range m) leafy
@@ -112,16 +119,23 @@ module _ {M : ℕ} {s : State} {p : ℕ} (m : Mover M s p) (st : processAt s p .
         let e : c .leaves + j ≡ h .node = omega arith in
         rw e at (leaf-level (c .leaves) (limits m .leaves) {j = j} (omega (arith, own-range m .node)))
 
-    -- the bits below the first clear one are set
+    -- the bits below it are set wherever their names are open, and clear where they are closed
     filled : (n : ℕ) → n ≤ f → Filled m r n
-    filled n k i l = unfold isOpen in first-zero-below (c .bits) w i (omega arith)
+    filled n k i l = go (isOpen c (r * c .bits + i)) refl
+      where
+        low : i < c .bits
+        low = omega (arith, first-zero-le (c .bits) x w)
+
+        go : (t : Bool) → isOpen c (r * c .bits + i) ≡ t → bit w i ≡ ind t
+        go true e = first-zero-below (c .bits) x w i (omega arith) (closed-word c r i low ∙ open-bit c (r * c .bits + i) e)
+        go false e = m .sound .valid .ranges .words r r-used .shut i low e
 
     won-keeps : f < c .bits → Invariant M (probed (Won (r * c .bits + f)))
     won-keeps k =
-        let x : Process = claimed (Won (r * c .bits + f)) h in
-        let word : setFirstZero (c .bits) w .word ≡ w + 2 ^ f = unfold setFirstZero in rw (lt-ltb f (c .bits) k) in
+        let y : Process = claimed (Won (r * c .bits + f)) h in
+        let word : setFirstZero (c .bits) x w .word ≡ w + 2 ^ f = unfold setFirstZero in rw (lt-ltb f (c .bits) k) in
         record {
-          shapes = shapes-set m x
+          shapes = shapes-set m y
               (record {
                 stands = λ _. record { busy = omega arith; leaf = leafy; mark = f; within = k; is = refl };
                 low = λ _. low-name m st leafy f k (filled f (omega arith));
@@ -133,9 +147,9 @@ module _ {M : ℕ} {s : State} {p : ℕ} (m : Mover M s p) (st : processAt s p .
                       returns = claiming m st .returns;
                     };
               });
-          gate = gate-past m x (omega arith) (omega arith);
-          bits = rw word (bits-win m r-used k x (claiming m st .nameless) refl (first-zero-clear (c .bits) w k));
-          bounds = stays-put m x (omega arith) (omega arith) refl refl;
+          gate = gate-past m y (omega arith) (omega arith);
+          bits = rw word (bits-win m r-used k y (claiming m st .nameless) refl (first-zero-clear (c .bits) x w k));
+          bounds = stays-put m y (omega arith) (omega arith) refl refl;
         }
 
     module _ (full : c .bits ≤ f) where
@@ -144,27 +158,27 @@ module _ {M : ℕ} {s : State} {p : ℕ} (m : Mover M s p) (st : processAt s p .
 
       next-keeps : Invariant M (probed (NextSegment (h .segment + 1)))
       next-keeps =
-          let x : Process = claimed (NextSegment (h .segment + 1)) h in
-          let word : setFirstZero (c .bits) w .word ≡ w = unfold setFirstZero in rw (le-ltb f (c .bits) full) in
-          let unchanged : set (s .words) r (setFirstZero (c .bits) w .word) ≡ s .words
+          let y : Process = claimed (NextSegment (h .segment + 1)) h in
+          let word : setFirstZero (c .bits) x w .word ≡ w = unfold setFirstZero in rw (le-ltb f (c .bits) full) in
+          let unchanged : set (s .words) r (setFirstZero (c .bits) x w .word) ≡ s .words
           = ap (λ (n : ℕ). set (s .words) r n) word ∙ set-getD (s .words) r 0 in
           record {
-            shapes = shapes-nameless m x getname st (claiming m st .nameless) (one-more m st)
+            shapes = shapes-nameless m y getname st (claiming m st .nameless) (one-more m st)
                 (record {
                   nameless = claiming m st .nameless;
                   flat = λ l. absurd (omega arith);
                   steps = omega (arith, claiming m st .steps);
                   returns = claiming m st .returns;
                 });
-            gate = gate-past m x (omega arith) (omega arith);
-            bits = rw unchanged (bits-same m x refl);
-            bounds = bounds-next m st leafy (filled (c .bits) full) x (omega arith) refl (omega arith);
+            gate = gate-past m y (omega arith) (omega arith);
+            bits = rw unchanged (bits-same m y refl);
+            bounds = bounds-next m st leafy (filled (c .bits) full) y (omega arith) refl (omega arith);
           }
 
     probe-keeps : Invariant M (probe s p)
     unfolding probe outcome setFirstZero
     probe-keeps =
-        by-cond (λ k. Invariant M (probed k)) (ltb (setFirstZero (c .bits) w .answer) (c .bits))
+        by-cond (λ k. Invariant M (probed k)) (ltb (setFirstZero (c .bits) x w .answer) (c .bits))
         (λ e. won-keeps (ltb-true f (c .bits) e))
         (λ e.
         let full : c .bits ≤ f = ltb-false f (c .bits) e in

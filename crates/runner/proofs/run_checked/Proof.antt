@@ -13,6 +13,7 @@ use Rattle.machine.proofs.Facts.Lists.{length-mapped}
 use Rattle.machine.proofs.Ranges.{ranges-of}
 use Rattle.machine.proofs.Valid.{Valid, event-valid}
 use Rattle.fresh.proofs.Accepted.{leaves-16}
+use Rattle.fresh.proofs.Counted.{open-64}
 use Rattle.operations.specs.declared.place.Place.{Place}
 use Rattle.runner.proofs.Arms.{Turn, told, Stored, stored-as, own, gate, queue, counter, segment, bit, parent, root}
 use Rattle.runner.proofs.Arms.{byte, wrote, kind-done, stranger-done, unshown}
@@ -173,14 +174,16 @@ run-checked-spec =
     (λ c κs. used (c .before .before .before .before) (c .before .before .r2 .given .1) .1)
     (λ c. used (c .before .before .before .before .before) (c .before .before .before .r2 .given .1) .0)
     -- Parent
-    (λ c. search needs) (λ c. search needs) (λ c. used (c .before .before .before) (c .before .u .given .1))
-    (λ c κs. told (turn (knew (c .before .before .before .before .before))) .accepted)
-    (λ c. used (c .before .before .before .before .before .before) (c .before .before .before .before .u .given .1))
+    (λ c. search needs) (λ c. search needs) (λ c. used (c .before .before .before) (c .before .u .given .1) .0)
+    (λ c κs.
+    let found = c .before .before .before .before .before in
+    (told (turn (knew found)) .accepted, used found (c .before .before .before .u .given .1) .1))
+    (λ c. used (c .before .before .before .before .before .before) (c .before .before .before .before .u .given .1) .0)
     -- Root
     (λ c. search needs) (λ c κs. told (turn (knew (c .before .before .before))) .accepted)
     (λ c κs.
     let valid = turn (knew (c .before .before .before .before .before .before)) .valid in
-    (omega (arith, c .before .before .names-of .ensures, valid .ranges .limits .k64), valid .sized .queue))
+    (omega (arith, c .before .before .open-names .ensures, open-64 _ (valid .ranges .limits)), valid .sized .queue))
     -- the record is stored, and the entry written
     (λ c. omega (arith, process-64 (knew (c .before)))) (λ c. process-64 (knew (c .before))) entry-fits
     (λ c. omega arith) served

@@ -1,6 +1,4 @@
 -- `digest` meets its contract: the parts of the state, mixed one after the other, are its image mixed. Assumes nothing.
-use mir.Facts.{toZ-ofZ}
-use mir.Syntax.{w8}
 use Rattle.cases.specs.Image.{imageOf}
 use Rattle.cases.proofs.Digests.{digest-append}
 use borrow.Author.Needs.{needs}
@@ -13,16 +11,13 @@ returns c =
     let words = c .before in
     let counters = words .before .before in
     let queue = counters .before .before in
-    let first = queue .before .before in
-    let gate = first .before .before .before .before .before in
+    let head = queue .before .before in
     simp (
       c .mix-processes .ensures .0,
-      words .mix-bytes4 .ensures .0,
-      counters .mix-bytes3 .ensures .0,
-      queue .mix-bytes2 .ensures .0,
-      first .mix-bytes .ensures .0,
-      gate .unsigned .ensures,
-      toZ-ofZ {w = w8} {z = gate .before .before .args .state .gate} (search needs),
+      words .mix-bytes3 .ensures .0,
+      counters .mix-bytes2 .ensures .0,
+      queue .mix-bytes .ensures .0,
+      head .mix-head .ensures .0,
       digest-append,
     )
 
@@ -30,8 +25,8 @@ pub digest-spec : {M : Type 1} → statement M
 digest-spec =
     tie.close
     (tie.spec
-    -- the setup, the gate and how many are queued
-    (λ c κs. search needs) (λ c. search needs) (λ c κs. search needs)
+    -- what stands before the arrays
+    (λ c κs. search needs)
     -- the queue, the counters and the words
     (λ c. search needs) (λ c κs. search needs)
     (λ c. search needs) (λ c κs. search needs)

@@ -11,13 +11,14 @@ returns : tie.Need-returns
 unfolding stateOf
 returns c =
     let gate = c .before .signed in
-    let processes = c .before .before .before .before .before .before .before in
+    let closed = c .before .before .before in
+    let processes = closed .before .before .before .before .before in
     let words = processes .before .before in
     let counters = words .before .before .before in
     let queue = counters .before .before .before in
     let same : toZ w8 (ofZ w8 (gate .result)) ≡ gate .result = toZ-ofZ (search needs) in
     rw same
-    (simp (gate .ensures, processes .load-processes .ensures, words .load3 .ensures, counters .load2 .ensures, queue .load .ensures))
+    (simp (gate .ensures, closed .load-number .ensures, processes .load-processes .ensures, words .load3 .ensures, counters .load2 .ensures, queue .load .ensures))
 
 pub state-of-spec : {M : Type 1} → statement M
 state-of-spec =
@@ -29,6 +30,6 @@ state-of-spec =
     (λ c. search needs) (λ c κs. search needs)
     (λ c κs. search needs)
     -- the setup
-    (λ c. search needs) (λ c. search needs) (λ c. search needs) (λ c. search needs)
+    (λ c. search needs) (λ c. search needs) (λ c. search needs) (λ c. search needs) (λ c κs. search needs)
     -- the gate, and how many are queued
     (λ c. search needs) (λ c κs. search needs) (λ c. search needs) returns)

@@ -9,5 +9,5 @@ body-setup-spec =
     (tie.spec
     -- N, L, g, b
     (λ c. search needs) (λ c. search needs) (λ c. search needs) (λ c. search needs)
-    -- the record of them
-    (λ c. search needs))
+    -- the setup of them
+    (λ c κs. search needs) (λ c. c .setup-of .ensures))

@@ -1,39 +1,88 @@
--- `fresh_counter` meets its contract: the table has each node's level, and from node 16 on the level is 5. Assumes nothing.
-use Prim.Native.Nat.{ℕ, _/_, _^_}
-use Rattle.machine.proofs.Rules.{ap, arith, needs, le-ltb}
-use Rattle.machine.specs.Setup.{log2, names}
-use Rattle.fresh.proofs.Levels.{level-is, level-small}
+-- `fresh_counter` meets its contract: the table has each node's level, and the names under its left child are a share of all, less those
+-- that are closed. Assumes nothing.
+use Prim.Native.Nat.{ℕ, _+_, _*_, _-_, _/_, _^_, _≤_, _<_}
+use Rattle.machine.proofs.Rules.{_∙_, sym, ap, arith, needs}
+use Rattle.machine.specs.Setup.{names}
+use Rattle.machine.specs.State.{depth, freshCounter}
+use Rattle.machine.proofs.Laws.Plain.{counter-share}
+use Rattle.machine.proofs.Ranges.{Limits, limits-of}
+use Rattle.fresh.proofs.Accepted.{leaves-16}
+use Rattle.fresh.proofs.Counted.{closed-le, counter-is, level-low, share-small, before-small}
+use Rattle.fresh.proofs.Levels.{level-is, level-small, power-is}
 use Rattle.fresh.proofs.counter.fresh_counter.Statement.{statement}
 use Rattle.fresh.proofs.counter.fresh_counter.Tie as tie
 
-shr-result : tie.Need-shr-result
-shr-result c = level-small (c .before .before .args .v) (c .if1 .taken)
+module _ (c : tie.Start) where
+  limits : Limits (c .args .setup)
+  limits = limits-of (c .args .setup) (c .pre .0)
 
+  node-16 : c .args .v < 16
+  node-16 = omega (arith, leaves-16 limits, c .pre .1 .1)
+
+-- with none closed, all are open
 returns : tie.Need-returns
 returns c =
-    rw (c .before .names-of .ensures)
-    (ap (λ (d : ℕ). names (c .before .before .args .setup) / 2 ^ d) (level-is (c .before .before .args .v) (c .if1 .taken)))
+    let named = c .before .before in
+    let start = named .before in
+    let v = start .args .v in
+    rw (named .names-of .ensures, level-is v (node-16 start))
+    (sym (counter-share (start .args .setup) (c .if1 .taken) (limits start .leaves) v (start .pre .1 .0) (start .pre .1 .1)))
+
+-- how many names lie under the left child, and where they begin
+module _ (c : tie.Else1) where
+  abbrev start : tie.Start
+  start = c .before .before .before
+
+  abbrev k : ℕ
+  k = names (start .args .setup)
+
+  abbrev v : ℕ
+  v = start .args .v
+
+  abbrev d : ℕ
+  d = depth v + 1
+
+  begins : (2 * v - 2 ^ d) * (k / 2 ^ d) < 64
+  begins = before-small k v (start .pre .1 .0) (node-16 start) (limits start .k64)
+
+  few : k / 2 ^ d < 64
+  few = omega (arith, share-small k v (start .pre .1 .0) (node-16 start), limits start .k64)
+
+  starts-low : 2 ^ d ≤ 2 * v
+  starts-low = level-low k v (start .pre .1 .0) (node-16 start)
+
+sub-before : tie.Need-sub-before
+sub-before c = rw (power-is (v c) (node-16 (start c))) (starts-low c)
+
+mul-closed-in : tie.Need-mul-closed-in
+mul-closed-in c =
+    record {
+      fits =
+          rw (c .before .before .names-of .ensures, power-is (v c) (node-16 (start c)), level-is (v c) (node-16 (start c)))
+          (omega (arith, begins c));
+    }
+
+closed-in-requires : tie.Need-closed-in-requires
+closed-in-requires c κs =
+    rw (c .before .before .names-of .ensures, power-is (v c) (node-16 (start c)), level-is (v c) (node-16 (start c))) (begins c, few c)
 
 returns-2 : tie.Need-returns-2
-unfolding log2
 returns-2 c =
-    let v = c .before .before .args .v in
-    let high = c .if1 .left in
-    simp (
-      c .before .names-of .ensures,
-      le-ltb v 2 (omega (arith, high)),
-      le-ltb v 4 (omega (arith, high)),
-      le-ltb v 8 (omega (arith, high)),
-      le-ltb v 16 high,
-    )
+    let at = c .before in
+    let named = at .before .before in
+    let s = start at in
+    rw (c .closed-in .ensures, named .names-of .ensures, power-is (v at) (node-16 s), level-is (v at) (node-16 s))
+    (sym (counter-is (s .args .setup) (limits s) (v at) (s .pre .1 .0) (s .pre .1 .1)))
 
 pub fresh-counter-spec : {M : Type 1} → statement M
 fresh-counter-spec =
     tie.close
     (tie.spec
-    -- `names_of(setup)`
-    (λ c κs. c .pre)
-    -- `v < 16`
-    (λ c. search needs) shr-result returns
+    -- the names and the level
+    (λ c κs. c .pre .0) (λ c. node-16 (c .before)) (λ c. level-small (c .before .args .v) (node-16 (c .before)))
+    -- `setup.closed == 0`
+    returns
+    -- where the names begin
+    (λ c. omega (arith, node-16 (start c))) (λ c. level-small (v c) (node-16 (start c))) sub-before
     -- otherwise
-    returns-2)
+    mul-closed-in closed-in-requires (λ c. rw (c .closed-in .ensures) (closed-le _ _ _)) returns-2)

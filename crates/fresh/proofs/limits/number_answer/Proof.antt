@@ -2,11 +2,11 @@
 use Prim.Native.Nat.{ℕ, _≤_}
 use lib.Dec.{leb}
 use Rattle.machine.proofs.Rules.{_≡_, _∙_, sym, true, cond, needs, not-true, le-leb, not-false, leb-true, lt-leb}
-use Rattle.machine.specs.Setup.{within, isLeaves, names, setupAnswer}
+use Rattle.machine.specs.Setup.{within, isLeaves, names, numberAnswer}
 use Rattle.machine.proofs.Facts.Leaves.{leaves-high}
 use Rattle.machine.proofs.Facts.Tests.{and-right}
-use Rattle.fresh.proofs.limits.setup_answer.Statement.{statement}
-use Rattle.fresh.proofs.limits.setup_answer.Tie as tie
+use Rattle.fresh.proofs.limits.number_answer.Statement.{statement}
+use Rattle.fresh.proofs.limits.number_answer.Tie as tie
 
 high : (low top n : ℕ) → within low top n ≡ true → n ≤ top
 high low top n e = leb-true n top (and-right (leb low n) (leb n top) e)
@@ -25,24 +25,24 @@ b-passes : (c : tie.Else4) → within 1 8 (c .before .before .before .before .be
 b-passes c = sym (c .before .is-within3 .ensures) ∙ not-false _ (c .if4 .left)
 
 returns : tie.Need-returns
-unfolding setupAnswer
+unfolding numberAnswer
 returns c = rw (sym (c .before .is-within .ensures) ∙ not-true _ (c .if1 .taken))
 
 returns-2 : tie.Need-returns-2
-unfolding setupAnswer
+unfolding numberAnswer
 returns-2 c =
     let past-n = c .before .before in
     rw (n-passes past-n, sym (c .before .is-leaves .ensures) ∙ not-true _ (c .if2 .taken))
 
 returns-3 : tie.Need-returns-3
-unfolding setupAnswer
+unfolding numberAnswer
 returns-3 c =
     let past-l = c .before .before in
     let past-n = past-l .before .before in
     rw (n-passes past-n, l-passes past-l, sym (c .before .is-within2 .ensures) ∙ not-true _ (c .if3 .taken))
 
 returns-4 : tie.Need-returns-4
-unfolding setupAnswer
+unfolding numberAnswer
 returns-4 c =
     let past-g = c .before .before in
     let past-l = past-g .before .before in
@@ -56,8 +56,8 @@ product-requires c κs =
 
 -- past four checks the names decide
 names-decide : (c : tie.After-product) → let s = c .before .before .before .before .before .before .before .before .before .args .setup in
-    setupAnswer s ≡ cond (leb (names s) 64) 0 5
-unfolding setupAnswer
+    numberAnswer s ≡ cond (leb (names s) 64) 0 5
+unfolding numberAnswer
 names-decide c =
     let past-b = c .before in
     let past-g = past-b .before .before in
@@ -71,8 +71,8 @@ returns-5 c = rw (names-decide (c .before), lt-leb _ _ (rw (c .before .product .
 returns-6 : tie.Need-returns-6
 returns-6 c = rw (names-decide (c .before), le-leb _ 64 (rw (c .before .product .ensures) at (c .if5 .left)))
 
-pub setup-answer-spec : {M : Type 1} → statement M
-setup-answer-spec =
+pub number-answer-spec : {M : Type 1} → statement M
+number-answer-spec =
     tie.close
     (tie.spec
     -- `!is_within(1, 64, setup.processes)`

@@ -8,4 +8,5 @@ pub blank-state-spec : {M : Type 1} → statement M
 blank-state-spec =
     tie.close
     (tie.spec
-    (λ c κs. search needs) (λ c. unfold blank in rw (c .no-process .ensures)))
+    (λ c κs. search needs) (λ c κs. search needs)
+    (λ c. unfold blank in rw (c .no-process .ensures, c .before .setup-of .ensures)))

@@ -42,6 +42,10 @@ module _ (c : tie.In-loop Inv-loop μ-loop) where
   node-16 : c .before .loop .v ≤ 16
   node-16 = omega (arith, leaves-16 limits, c .before .loop .inv .0)
 
+node-used : tie.Need-fresh-counter-requires Inv-loop μ-loop
+node-used c κs =
+    (c .before .before .before .pre, (omega (arith, node-2 c), omega (arith, node-2 c, c .before .loop .inv .0)))
+
 loop-again : tie.Need-loop-again Inv-loop μ-loop
 loop-again c =
     let s = c .before .before .before .before .args .setup in
@@ -72,7 +76,7 @@ partial-counters-spec =
     -- before the loop
     (λ c κs. c .pre) loop-holds
     -- a turn
-    (λ c. omega (arith, node-2 c)) (λ c κs. c .before .before .before .pre)
+    (λ c. omega (arith, node-2 c)) node-used
     (λ c. omega (arith, node-16 (c .before))) (λ c. omega (arith, node-16 (c .before), node-2 (c .before)))
     (λ c. omega (arith, c .before .loop-test .taken)) (λ c. omega (arith, c .before .loop-test .taken)) loop-again
     -- after the loop

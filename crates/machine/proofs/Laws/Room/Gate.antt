@@ -9,7 +9,7 @@ use Rattle.machine.specs.Gate.{above0, inQueue, lowered, joined, enter, 
 use Rattle.machine.specs.Range.{gateInRange, inRange, ProcessRanges}
 use Rattle.machine.specs.Room.{canFall, canRise, enterRoom}
 use Rattle.machine.specs.Stage.{waiting, getname}
-use Rattle.machine.specs.Setup.{names}
+use Rattle.machine.specs.Setup.{openNames}
 use Rattle.machine.specs.State.{withStage, processAt, update}
 use Rattle.machine.specs.declared.State.{State}
 use Rattle.machine.proofs.Facts.Tests.{by-cond, both, and-left, and-right, same-test}
@@ -38,14 +38,14 @@ module _ (s : State) (p : ℕ) (k : Ranges s) (kp : p < s .setup .processes) whe
   h = k .process p kp
 
   lowered-ranges : canFall (s .gate) ≡ true → Ranges (lowered s)
-  lowered-ranges e = set-gate s k (predℤ (s .gate)) (gate-falls (names (s .setup)) (s .gate) (k .gate) ∙ e)
+  lowered-ranges e = set-gate s k (predℤ (s .gate)) (gate-falls (openNames (s .setup)) (s .gate) (k .gate) ∙ e)
 
   queue-room : inRange (update p (withStage waiting) (joined p (lowered s))) ≡ (canFall (s .gate) && ltb (s .queued) 64)
   queue-room =
       same-test _ (canFall (s .gate) && ltb (s .queued) 64)
       (λ i.
       let r = ranges-of _ i in
-      both (sym (gate-falls (names (s .setup)) (s .gate) (k .gate)) ∙ r .gate) (lt-ltb (s .queued) 64 (omega (arith, r .queue .size))))
+      both (sym (gate-falls (openNames (s .setup)) (s .gate) (k .gate)) ∙ r .gate) (lt-ltb (s .queued) 64 (omega (arith, r .queue .size))))
       (λ i.
       let falls = lowered-ranges (and-left (canFall (s .gate)) (ltb (s .queued) 64) i) in
       let free = ltb-true (s .queued) 64 (and-right (canFall (s .gate)) (ltb (s .queued) 64) i) in

@@ -4,7 +4,8 @@ use Prim.Native.Nat.{ℕ, _+_, _*_, _≤_, _<_}
 use lib.Arith.{digits-lt}
 use lib.Dec.{ltb}
 use lib.ListN.{length}
-use Rattle.machine.proofs.Rules.{_≡_, arith, lt-ltb, ltb-false, ltb-true}
+use Rattle.machine.proofs.Rules.{_≡_, _∙_, sym, true, arith, lt-ltb, ltb-false, ltb-true}
+use Rattle.machine.specs.Closed.{isOpen, closedWord}
 use Rattle.machine.specs.Getname.{moved, claimed, side, outcome, segmentOf, descend, probe, getnameStep}
 use Rattle.machine.specs.Operations.{setFirstZero, boundedDecrement}
 use Rattle.machine.specs.Range.{inRange, ProcessRanges}
@@ -12,11 +13,12 @@ use Rattle.machine.specs.Room.{getnameRoom}
 use Rattle.machine.specs.State.{figure, processAt, counterAt, wordAt, freshCounter, withCounter, withWord, update}
 use Rattle.machine.specs.declared.ClaimStep.{ClaimStep}
 use Rattle.machine.specs.declared.State.{State}
+use Rattle.machine.proofs.Closed.{closed-word, shut-bit, bit-open}
 use Rattle.machine.proofs.Facts.Tests.{by-cond, same-test}
-use Rattle.machine.proofs.Facts.Words.{set-first-zero-lt, decremented-le}
+use Rattle.machine.proofs.Facts.Words.{first-zero-open, set-first-zero-lt, set-first-zero-closed, decremented-le}
 use Rattle.machine.proofs.Own.{claimed-returns}
 use Rattle.machine.proofs.Places.{leaf-segment}
-use Rattle.machine.proofs.Ranges.{Ranges, ranges-of, in-range}
+use Rattle.machine.proofs.Ranges.{WordRanges, Ranges, ranges-of, in-range}
 use Rattle.machine.proofs.Stores.{new-stage, new-node, own-record, store-process, store-counter, store-word}
 
 -- a step whose other numbers are in range has room exactly when its figure has
@@ -56,9 +58,10 @@ module _ (s : State) (p : ℕ) (k : Ranges s) (kp : p < s .setup .processes) (si
       (λ _. new-node _ (omega arith) (omega arith) h)
 
   outcome-ranges : (r m : ℕ) → r < s .setup .leaves * s .setup .segments
+      → (m < s .setup .bits → isOpen (s .setup) (r * s .setup .bits + m) ≡ true)
       → InRange (outcome (s .setup) r (processAt s p .segment) m)
   unfolding outcome
-  outcome-ranges r m l =
+  outcome-ranges r m l o =
       by-cond InRange (ltb m (s .setup .bits))
       (λ e.
       record {
@@ -66,7 +69,8 @@ module _ (s : State) (p : ℕ) (k : Ranges s) (kp : p < s .setup .processes) (si
         node1 = h .node1;
         node = h .node;
         segment = h .segment;
-        name = λ _. digits-lt l (ltb-true m (s .setup .bits) e);
+        name = λ _.
+            let low : m < s .setup .bits = ltb-true m (s .setup .bits) e in record { below = digits-lt l low; is-open = o low };
         shown = h .shown;
       })
       (λ _.
@@ -87,11 +91,20 @@ module _ (s : State) (p : ℕ) (k : Ranges s) (kp : p < s .setup .processes) (si
   probe-room e =
       let r : ℕ = segmentOf (s .setup) (processAt s p) in
       let l : r < s .setup .leaves * s .setup .segments = leaf-segment h e in
-      let w = setFirstZero (s .setup .bits) (wordAt s r) in
-      let low = set-first-zero-lt (s .setup .bits) (wordAt s r) (k .words r l) in
-      claim-room (withWord r (w .word) s) p (store-word s k r (w .word) low) kp sized
+      let b : ℕ = s .setup .bits in
+      let x : ℕ = closedWord (s .setup) r in
+      let w = setFirstZero b x (wordAt s r) in
+      let new : WordRanges (s .setup) r (w .word)
+      = record {
+        size = set-first-zero-lt b x (wordAt s r) (k .words r l .size);
+        shut = λ i m o.
+            set-first-zero-closed b x (wordAt s r) i (closed-word (s .setup) r i m ∙ shut-bit (s .setup) (r * b + i) o)
+            (k .words r l .shut i m o);
+      } in
+      claim-room (withWord r (w .word) s) p (store-word s k r (w .word) new) kp sized
       (outcome (s .setup) r (processAt s p .segment) (w .answer))
-      (outcome-ranges r (w .answer) l)
+      (outcome-ranges r (w .answer) l
+      (λ m. bit-open (s .setup) _ (sym (closed-word (s .setup) r _ m) ∙ (unfold setFirstZero in first-zero-open b x (wordAt s r) m))))
 
   pub getname-room : inRange (getnameStep s p) ≡ getnameRoom s p
   unfolding getnameStep

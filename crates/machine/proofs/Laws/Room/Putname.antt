@@ -1,7 +1,7 @@
 -- Stage 5: a putname step stays in range exactly when the counter that it raises is below its fresh value, or, at node 1, the
 -- gate word below k, and when its figure has room for the return operation that it counts. The numbers that rise are read off, both
 -- ways. Assumes nothing.
-use Prim.Native.Nat.{ℕ, _+_, _*_, _/_, _%_, _^_, _<_}
+use Prim.Native.Nat.{ℕ, _+_, _*_, _/_, _%_, _<_}
 use lib.Dec.{eqb, ltb}
 use lib.IntN.{sucℤ}
 use lib.ListN.{length}
@@ -13,17 +13,17 @@ use Rattle.machine.specs.Putname.{returned, giveBack, climb, putnameStep
 use Rattle.machine.specs.Range.{inRange, ProcessRanges}
 use Rattle.machine.specs.Room.{canRise, hasRoom, climbRoom, putnameRoom}
 use Rattle.machine.specs.Stage.{remainder}
-use Rattle.machine.specs.Setup.{names}
+use Rattle.machine.specs.Setup.{openNames}
 use Rattle.machine.specs.State.{none, withStage, withSegment, withNode, withName, figure, processAt}
 use Rattle.machine.specs.State.{counterAt, wordAt, freshCounter, withCounter, withProcess, update, Sized}
 use Rattle.machine.specs.declared.Process.{Process}
 use Rattle.machine.specs.declared.State.{State}
 use Rattle.machine.proofs.Facts.Tests.{both, and-left, and-right, same-test}
 use Rattle.machine.proofs.Facts.Leaves.{leaves-high}
-use Rattle.machine.proofs.Facts.Words.{clr-bit-le}
+use Rattle.machine.proofs.Facts.Words.{clr-bit-le, clr-bit-closed}
 use Rattle.machine.proofs.Laws.Room.Gate.{gate-rises}
 use Rattle.machine.proofs.Places.{name-segment}
-use Rattle.machine.proofs.Ranges.{Ranges, ranges-of, in-range}
+use Rattle.machine.proofs.Ranges.{WordRanges, Ranges, ranges-of, in-range}
 use Rattle.machine.proofs.Stores.{new-node, new-name, new-returns, own-record, store-process, store-counter, store-word}
 use Rattle.machine.proofs.Stores.{set-gate, advance-queue}
 
@@ -80,13 +80,13 @@ module _ (s : State) (p : ℕ) (k : Ranges s) (kp : p < s .setup .processes) (z 
         go true = counter-room
         go false = in-range _ (store-process s k p _ up)
 
-  leave-room : inRange (leave s p) ≡ canRise (names (s .setup)) (s .gate)
+  leave-room : inRange (leave s p) ≡ canRise (openNames (s .setup)) (s .gate)
   unfolding leave headGone
   leave-room =
-      let rises = gate-rises (names (s .setup)) (s .gate) (k .gate) in
+      let rises = gate-rises (openNames (s .setup)) (s .gate) (k .gate) in
       let left : ProcessRanges (s .setup) (withStage remainder (withSegment 0 h))
       = record { stage = omega arith; node1 = kh .node1; node = kh .node; segment = k .limits .g1; name = kh .name; shown = kh .shown } in
-      same-test _ (canRise (names (s .setup)) (s .gate))
+      same-test _ (canRise (openNames (s .setup)) (s .gate))
       (λ i. sym rises ∙ ranges-of (leave s p) i .gate)
       (λ i. in-range _ (store-process _ (set-gate (headGone s) (advance-queue s k (z .queue)) (sucℤ (s .gate)) (rises ∙ i)) p _ left))
 
@@ -96,7 +96,11 @@ module _ (s : State) (p : ℕ) (k : Ranges s) (kp : p < s .setup .processes) (z 
       let r : ℕ = h .name / s .setup .bits in
       let i : ℕ = h .name % s .setup .bits in
       let l : r < s .setup .leaves * s .setup .segments = name-segment kh (k .limits .b1) d in
-      let w : clrBit (wordAt s r) i < 2 ^ s .setup .bits = omega (arith, clr-bit-le (wordAt s r) i, k .words r l) in
+      let w : WordRanges (s .setup) r (clrBit (wordAt s r) i)
+      = record {
+        size = omega (arith, clr-bit-le (wordAt s r) i, k .words r l .size);
+        shut = λ j m o. clr-bit-closed (wordAt s r) i j (k .words r l .shut j m o);
+      } in
       let nameless : ProcessRanges (s .setup) (withName none h) = new-name none (λ n. absurd (n refl)) kh in
       same-test _ (hasRoom h)
       (λ e. return-room (withName none h) refl (ranges-of (giveBack s p) e .process p kp))
@@ -110,7 +114,7 @@ module _ (s : State) (p : ℕ) (k : Ranges s) (kp : p < s .setup .processes) (z 
     where
       go : (t above : Bool) → eqb (h .name) none ≡ t → ltb 1 (h .node) ≡ above
           → inRange (cond t (cond above (climb s p) (leave s p)) (giveBack s p))
-          ≡ cond t (cond above (climbRoom s p) (canRise (names (s .setup)) (s .gate))) (hasRoom h)
+          ≡ cond t (cond above (climbRoom s p) (canRise (openNames (s .setup)) (s .gate))) (hasRoom h)
       go true true e l = climb-room (ltb-true _ _ l)
       go true false e l = leave-room
       go false above e l = name-room (eqb-false _ _ e)

@@ -1,5 +1,5 @@
 -- `power` meets its contract: 1 shifted by less than eight, computed for each. Assumes nothing.
-use Rattle.operations.proofs.Bytes.{shifted-is}
+use Rattle.fresh.proofs.Levels.{shifted-is}
 use borrow.Author.Needs.{needs}
 use Rattle.operations.proofs.words.power.Statement.{statement}
 use Rattle.operations.proofs.words.power.Tie as tie

@@ -5,12 +5,13 @@ use Rattle.operations.proofs.Bytes.{set-below}
 use Rattle.operations.proofs.words.set_first_zero.Statement.{statement}
 use Rattle.operations.proofs.words.set_first_zero.Tie as tie
 
-add-t6 : tie.Need-add-t6
-add-t6 c =
+add-t7 : tie.Need-add-t7
+add-t7 c =
     let b = c .before .before .before .args .b in
     let w = c .before .before .before .args .w in
     let m = c .before .before .first-zero .ensures in
-    let h = set-below b w (omega arith) (c .before .before .before .fits .w .fits) (rw m at (c .before .if1 .taken)) in
+    let x = c .before .before .before .args .x in
+    let h = set-below b x w (omega arith) (c .before .before .before .fits .w .fits) (rw m at (c .before .if1 .taken)) in
     record { fits = rw (c .power .ensures, m) h }
 
 returns : tie.Need-returns
@@ -30,6 +31,6 @@ set-first-zero-spec =
     tie.close
     (tie.spec
     -- a bit is clear
-    (λ c κs. search needs) (λ c κs. search needs) add-t6 returns
+    (λ c κs. search needs) (λ c κs. search needs) add-t7 returns
     -- none is
     returns-2)

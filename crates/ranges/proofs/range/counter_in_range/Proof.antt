@@ -1,5 +1,5 @@
 -- `counter_in_range` meets its contract: node 0 by itself, another by the comparison with its fresh value. Assumes nothing.
-use borrow.Author.Tests.{ne-eqb}
+use Rattle.machine.proofs.Rules.{arith, ne-eqb}
 use Rattle.ranges.proofs.range.counter_in_range.Statement.{statement}
 use Rattle.ranges.proofs.range.counter_in_range.Tie as tie
 
@@ -10,4 +10,4 @@ counter-in-range-spec =
     -- `v == 0`
     (λ c. rw (c .if1 .taken))
     -- otherwise
-    (λ c κs. c .before .pre) (λ c. simp (ne-eqb _ _ (c .before .if1 .left), c .fresh-counter .ensures)))
+    (λ c κs. let start = c .before in (start .pre .0, (omega (arith, c .if1 .left), start .pre .1))) (λ c. simp (ne-eqb _ _ (c .before .if1 .left), c .fresh-counter .ensures)))

@@ -63,7 +63,7 @@ counters-in-range-spec =
     -- before the loop
     (λ c. (search needs, λ u h m. absurd (not-suc-le-zero h)))
     -- a turn whose counter fails
-    (λ c. search needs) (λ c. search needs) (λ c κs. c .before .before .before .before .before .pre) returns
+    (λ c. search needs) (λ c. search needs) (λ c κs. (c .before .before .before .before .before .pre, c .before .if1 .taken)) returns
     -- a turn
     (λ c. search needs) (λ c. search needs) loop-again
     -- after the loop

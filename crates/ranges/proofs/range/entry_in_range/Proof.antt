@@ -6,8 +6,9 @@ use mir.Syntax.{w8}
 use mir.Val.{toZ, ofZ}
 use Rattle.machine.proofs.Rules.{_≡_, _∙_, sym, Bool, needs, not-true, eq-eqb, le-leb, not-false, ne-eqb, lt-leb}
 use Rattle.machine.specs.Range.{gateInRange, entryTests}
-use Rattle.machine.specs.Setup.{names, setupAnswer}
+use Rattle.machine.specs.Setup.{openNames, setupAnswer}
 use Rattle.machine.proofs.Ranges.{Limits, limits-of}
+use Rattle.fresh.proofs.Counted.{open-64}
 use Rattle.ranges.proofs.Verdict.{one-fails, passes, decides}
 use Rattle.ranges.proofs.range.entry_in_range.Statement.{statement}
 use Rattle.ranges.proofs.range.entry_in_range.Tie as tie
@@ -29,8 +30,8 @@ tests c = let a = c .args in entryTests (a .setup) (a .gate) (a .queued) (a .que
 
 -- what the test of the gate word found
 gate : (c : tie.After-gate-in-range) → let a = c .before .before .before .before .args in
-    c .gate-in-range .result ≡ gateInRange (names (a .setup)) (a .gate)
-gate c = rw (c .before .names-of .ensures, signed (c .before .before .before .before)) at (c .gate-in-range .ensures)
+    c .gate-in-range .result ≡ gateInRange (openNames (a .setup)) (a .gate)
+gate c = rw (c .before .open-names .ensures, signed (c .before .before .before .before)) at (c .gate-in-range .ensures)
 
 refused : tie.Need-returns
 refused c = sym (one-fails (tests (c .before .before)) 0 (rw (c .before .setup-answer .ensures) at (ne-eqb _ _ (c .if1 .taken))))
@@ -56,6 +57,6 @@ entry-in-range-spec =
     -- the setup
     (λ c κs. search needs) refused
     -- the gate word
-    (λ c κs. accepted c) (λ c κs. rw (c .names-of .ensures) (limits (c .before) .k64)) gate-fails
+    (λ c κs. accepted c) (λ c κs. rw (c .open-names .ensures) (open-64 _ (limits (c .before)))) gate-fails
     -- the queue: its length, and its places
     queue-long (λ c κs. (c .if3 .left, limits (c .before .before .before .before) .n1)) queue-decides)

@@ -77,33 +77,42 @@ words-fail c =
     let s = start (c .before .before .before .before .before .before .before .before .before .before) .args .t1 in
     sym (one-fails (rangeTests s) 2 (sym (c .before .words-in-range .ensures) ∙ not-true _ (c .if3 .taken)))
 
+closed-fail : tie.Need-returns-4 Inv-loop μ-loop
+unfolding inRange
+closed-fail c =
+    let counted = c .before .before .before .before .before .before .before .before .before .before in
+    let s = start (counted .before .before .before .before .before) .args .t1 in
+    sym (one-fails (rangeTests s) 3 (sym (c .before .words-open .ensures) ∙ not-true _ (c .if4 .taken)))
+
 loop-holds : tie.Need-loop-holds Inv-loop μ-loop
 unfolding inRange allBelow
 loop-holds c =
-    let counted = c .before .before .before .before .before in
+    let sized = c .before .before .before .before .before in
+    let counted = sized .before .before .before .before .before in
     let entered = counted .before .before .before .before .before in
     let s = start entered .args .t1 in
     let counters = sym (counted .before .counters-in-range .ensures) ∙ not-false _ (counted .if2 .left) in
-    let words = sym (c .before .words-in-range .ensures) ∙ not-false _ (c .if3 .left) in
-    let rest = passes {t = entry s} (entry-passes entered) (passes counters (passes words (decides refl))) in
+    let words = sym (sized .before .words-in-range .ensures) ∙ not-false _ (sized .if3 .left) in
+    let closed = sym (c .before .words-open .ensures) ∙ not-false _ (c .if4 .left) in
+    let rest = passes {t = entry s} (entry-passes entered) (passes counters (passes words (passes closed (decides refl)))) in
     (refl, record { accepted = accepted entered; rest = rest; high = search needs; passed = refl })
 
 -- the processes of an accepted setup
 few : {s : State} {i : ℕ} → Going s i → s .setup .processes ≤ 64
 few {s} g = limits-of (s .setup) (g .accepted) .n64
 
-process-fails : tie.Need-returns-4 Inv-loop μ-loop
+process-fails : tie.Need-returns-5 Inv-loop μ-loop
 process-fails c =
     let turn = c .before .before .before .before in
     let going = turn .before .loop .inv in
-    let fails = sym (c .before .process-in-range .ensures) ∙ not-true _ (c .if4 .taken) in
+    let fails = sym (c .before .process-in-range .ensures) ∙ not-true _ (c .if5 .taken) in
     sym (sym (going .1 .rest) ∙ all-fails _ _ _ (omega (arith, going .0, turn .loop-test .taken)) fails)
 
 loop-again : tie.Need-loop-again Inv-loop μ-loop
 loop-again c =
     let turn = c .before .before .before .before in
     let going = turn .before .loop .inv in
-    let here = sym (c .before .process-in-range .ensures) ∙ not-false _ (c .if4 .left) in (
+    let here = sym (c .before .process-in-range .ensures) ∙ not-false _ (c .if5 .left) in (
       going .0,
       record {
         accepted = going .1 .accepted;
@@ -113,7 +122,7 @@ loop-again c =
       },
     )
 
-processes-pass : tie.Need-returns-5 Inv-loop μ-loop
+processes-pass : tie.Need-returns-6 Inv-loop μ-loop
 processes-pass c =
     let going = c .before .loop .inv in
     let last = le-antisymm (going .1 .high) (omega (arith, going .0, c .loop-test .left)) in
@@ -125,9 +134,10 @@ in-range-spec =
     (tie.spec Inv-loop μ-loop
     -- the setup, the gate word and its queue
     (λ c κs. search needs) entry-fails
-    -- the counters; the segment words
+    -- the counters; the segment words, and their closed bits
     (λ c κs. accepted (c .before .before .before)) counters-fail
     (λ c κs. accepted (c .before .before .before .before .before .before .before .before)) words-fail
+    (λ c κs. accepted (c .before .before .before .before .before .before .before .before .before .before .before .before .before)) closed-fail
     -- up to the loop
     (λ c. search needs) loop-holds
     -- a turn whose process fails

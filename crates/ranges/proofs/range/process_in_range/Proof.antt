@@ -13,7 +13,7 @@ leaves c = leaves-16 (limits-of (c .args .setup) (c .pre))
 -- past the other tests the name decides
 name-decides : tie.Need-returns-6
 name-decides c =
-    let past-sum = c .before .before in
+    let past-sum = c .before in
     let past-segment = past-sum .before .before in
     let past-node = past-segment .before .before .before in
     let past-root = past-node .before .before .before in
@@ -25,7 +25,7 @@ name-decides c =
       sym (past-sum .before .within .ensures) ∙ not-false _ (past-sum .if5 .left),
       and-true,
     )
-    (rw (c .before .names-of .ensures) at (c .is-name .ensures))
+    (c .is-name .ensures)
 
 pub process-in-range-spec : {M : Type 1} → statement M
 process-in-range-spec =
@@ -42,4 +42,4 @@ process-in-range-spec =
     -- `!counts::within(h)`
     (λ c κs. search needs) (λ c. simp (sym (c .before .within .ensures) ∙ not-true _ (c .if5 .taken), and-false))
     -- the name
-    (λ c κs. search needs) (λ c κs. search needs) name-decides)
+    (λ c κs. search needs) name-decides)

@@ -4,8 +4,9 @@ use mir.Syntax.{w8}
 use Rattle.machine.proofs.Rules.{_≡_, _∙_, sym, true, needs, not-true, not-false}
 use Rattle.machine.specs.Range.{inRange}
 use Rattle.machine.specs.Reports.{gateReport}
-use Rattle.machine.specs.Setup.{names}
+use Rattle.machine.specs.Setup.{openNames}
 use Rattle.machine.proofs.Ranges.{ranges-of}
+use Rattle.fresh.proofs.Counted.{open-64}
 use Rattle.renaming.proofs.Signs.{neg-fits, gate-64}
 use Rattle.renaming.proofs.report.gate_report.Statement.{statement}
 use Rattle.renaming.proofs.report.gate_report.Tie as tie
@@ -18,7 +19,7 @@ negated-requires : tie.Need-negated-requires
 negated-requires c κs =
     let s = c .before .before .before .args .state in
     let k = ranges-of s (sym (c .before .before .in-range .ensures) ∙ not-false _ (c .before .if1 .left)) in
-    rw (toZ-ofZ {w = w8} {z = s .gate} (search needs)) (gate-64 (names (s .setup)) (s .gate) (k .gate) (k .limits .k64))
+    rw (toZ-ofZ {w = w8} {z = s .gate} (search needs)) (gate-64 (openNames (s .setup)) (s .gate) (k .gate) (open-64 (s .setup) (k .limits)))
 
 returns-2 : tie.Need-returns-2
 unfolding gateReport
@@ -28,7 +29,7 @@ returns-2 c =
     let past = c .before .before .before .before .before in
     let e : inRange s ≡ true = sym (past .before .in-range .ensures) ∙ not-false _ (past .if1 .left) in
     let k = ranges-of s e in
-    let n = toZ-ofZ (neg-fits (s .gate) (gate-64 (names (s .setup)) (s .gate) (k .gate) (k .limits .k64))) in
+    let n = toZ-ofZ (neg-fits (s .gate) (gate-64 (openNames (s .setup)) (s .gate) (k .gate) (open-64 (s .setup) (k .limits)))) in
     rw (e, c .before .positive-part .ensures, c .positive-part2 .ensures, z, c .before .before .before .negated .ensures, z, n)
 
 pub gate-report-spec : {M : Type 1} → statement M
