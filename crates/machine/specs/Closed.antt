@@ -34,7 +34,7 @@ unfoldable pub openIn : Setup → ℕ → ℕ → ℕ
 openIn c from n = countBelow n (λ i. isOpen c (from + i))
 
 unfoldable pub rank : Setup → ℕ → ℕ
-rank c p = countBelow p (isOpen c)
+rank c p = countBelow p (λ i. isOpen c i)
 
 -- the closed bits of segment word r, whose bit i stands for name r·b + i
 unfoldable pub closedWord : Setup → ℕ → ℕ

@@ -1,5 +1,5 @@
--- Runs beyond the table that pin what it leaves open: the order of the refusals, each range, the queue's order, and a full round on
--- either side of a node. `controls` in proofs/Controls.antt computes each.
+-- Runs beyond the table that pin what it leaves open: the order of the refusals, closed names, each range, the queue's order, and a full
+-- round on either side of a node. `controls` in proofs/Controls.antt computes each.
 use mathlib.Core.Path.{_≡_}
 use mathlib.Core.Bool.{true, false}
 use mathlib.Core.List.{List, [], _∷_, _++_, map}
@@ -13,7 +13,8 @@ use Rattle.machine.specs.Lists.{Event, eventsOf, after, journal, run, ru
 use Rattle.machine.specs.Operations.{setFirstZero}
 use Rattle.machine.specs.Range.{inRange}
 use Rattle.machine.specs.Reports.{gateReport, statusAnswer, statusRecords}
-use Rattle.machine.specs.Setup.{plain}
+use Rattle.machine.specs.Closed.{rank}
+use Rattle.machine.specs.Setup.{numbered, given, plain}
 use Rattle.machine.specs.Runs.{request, step, release, line}
 use Rattle.machine.specs.State.{done, none, freshProcess, withStage, withNode, withSegment, withName, withSteps, withReturns}
 use Rattle.machine.specs.State.{processAt, counterAt, withGate, withQueue, withCounter, withWord, withProcess, update}
@@ -37,6 +38,22 @@ badSetups = plain 65 3 9 9 ∷ plain 64 3 9 9 ∷ plain 64 16 9 9 ∷ plain 64 1
 
 abbrev pub refusedSetups : List Done
 refusedSetups = done 1 blank ∷ done 2 blank ∷ done 3 blank ∷ done 4 blank ∷ done 5 blank ∷ []
+
+-- four leaves of two segments of two bits, with four of sixteen names closed, one of them named twice: one of leaf 0, three of leaf 1
+abbrev pub torn : Setup
+torn = given 4 4 2 2 (7 ∷ 0 ∷ 5 ∷ 6 ∷ 5 ∷ [])
+
+-- lists of closed names for a setup of two names
+abbrev pub closings : List (List ℕ)
+closings =
+    []
+    ∷ (1 ∷ [])
+    ∷ (0 ∷ 0 ∷ 0 ∷ [])
+    ∷ (2 ∷ [])
+    ∷ (0 ∷ 255 ∷ 1 ∷ [])
+    ∷ (1 ∷ 0 ∷ [])
+    ∷ (1 ∷ 0 ∷ 1 ∷ 0 ∷ [])
+    ∷ []
 
 -- process 0 wins by the left leaf and process 1 by the right; 1 gives its name back, then 0
 abbrev pub round : List Event
@@ -91,6 +108,12 @@ broken =
     ∷ update 1 (spent 1 255) pair
     ∷ update 1 (spent 128 128) pair
     ∷ update 1 (spent 255 255) pair
+    ∷ fresh (numbered 2 2 1 1 4)
+    ∷ fresh (numbered 2 2 1 1 3)
+    ∷ withWord 0 1 (fresh torn)
+    ∷ update 1 (withName 5) (fresh torn)
+    ∷ withCounter 1 5 (fresh torn)
+    ∷ withGate (pos 13) (fresh torn)
     ∷ blank
     ∷ []
 
@@ -115,11 +138,14 @@ whole =
     ∷ update 1 (λ h. withStage 6 (withNode 3 (withName 1 (spent 255 0 h)))) pair
     ∷ update 1 (spent 0 255) pair
     ∷ update 1 (spent 127 128) pair
+    ∷ fresh torn
+    ∷ withWord 0 2 (update 1 (withName 1) (fresh torn))
     ∷ withCounter 0 255 (withCounter 2 255 (withWord 2 255 (withProcess 2 nines pair)))
     ∷ []
 
 -- states in range whose next turn of process 0 would leave one: the gate word at -64, the queue full; the figure at 255 for a claim at a
--- node and at a leaf, a bit clear and a counter given back; the counter at its fresh value, the gate word at k
+-- node and at a leaf, a bit clear and a counter given back; the counter at its fresh value, the gate word at the open names, with none
+-- closed and with some
 abbrev pub edges : List State
 edges =
     withGate (negsuc 63) (update 0 (withStage 1) pair)
@@ -130,6 +156,8 @@ edges =
     ∷ withCounter 1 0 (update 0 (λ h. withStage 5 (withNode 2 (spent 55 200 h))) pair)
     ∷ update 0 (λ h. withStage 5 (withNode 2 h)) pair
     ∷ update 0 (withStage 5) pair
+    ∷ update 0 (λ h. withStage 5 (withNode 4 h)) (fresh torn)
+    ∷ update 0 (withStage 5) (fresh torn)
     ∷ []
 
 -- states in range with the figure at 255, where the next turn of process 0 counts nothing: a level left by the right, and the gate
@@ -149,6 +177,18 @@ pub record Controls : Type 0 where
   pub partial-setups : map (λ c. partialSetup c 9) badSetups ≡ refusedSetups
   -- of several clear bits the lowest is set
   pub lowest : setFirstZero 3 0 0 ≡ record { answer = 0; word = 1 }
+  -- past a closed bit, and where the bits that are clear are closed
+  pub past-closed : setFirstZero 3 1 4 ≡ record { answer = 1; word = 6 }
+  pub all-closed : setFirstZero 3 3 4 ≡ record { answer = 3; word = 4 }
+  -- a setup with closed names: 19 after 5, then 20, whatever the order and however often one is named
+  pub closed-setups : map (λ ps. setup (given 1 1 2 1 ps) .answer) closings ≡ 0 ∷ 0 ∷ 0 ∷ 19 ∷ 19 ∷ 20 ∷ 20 ∷ []
+  pub numbers-first : setup (given 1 16 8 8 (255 ∷ [])) ≡ done 5 blank
+  pub none-open : setup (given 1 1 2 1 (1 ∷ 0 ∷ [])) ≡ done 20 blank
+  -- its number, counters by node, gate word, and the open names below some
+  pub closed-number : torn .closed ≡ 225
+  pub closed-counters : take 5 (fresh torn .counters) ≡ 0 ∷ 4 ∷ 3 ∷ 4 ∷ 0 ∷ []
+  pub closed-gate : fresh torn .gate ≡ pos 12
+  pub closed-ranks : map (rank torn) (0 ∷ 1 ∷ 4 ∷ 8 ∷ 16 ∷ []) ≡ 0 ∷ 0 ∷ 3 ∷ 4 ∷ 12 ∷ []
   -- counters k / 2^(d+1), by node
   pub counters : fresh (plain 64 16 2 2) .counters ≡ 0 ∷ 32 ∷ 16 ∷ 16 ∷ 8 ∷ 8 ∷ 8 ∷ 8 ∷ 4 ∷ 4 ∷ 4 ∷ 4 ∷ 4 ∷ 4 ∷ 4 ∷ 4 ∷ []
   -- fresh: 0, 1, 0, 255, 0, 0; and 0 where the setup leaves a place unused
@@ -164,8 +204,8 @@ pub record Controls : Type 0 where
       ≡ line 0 1 none 0 ++ line 0 3 none 0 ++ line 0 3 none 1 ++ line 0 4 1 2
       ++ line 0 1 none 0 ++ line 0 3 none 0 ++ line 0 3 none 1 ++ line 0 6 none 2
   -- each range, its ends, and unused places
-  pub out-of-range : map inRange broken ≡ replicate 28 false
-  pub at-the-ends : map inRange whole ≡ replicate 12 true
+  pub out-of-range : map inRange broken ≡ replicate 34 false
+  pub at-the-ends : map inRange whole ≡ replicate 14 true
   -- an event: 15 for the state, 12, 6, then 7, 8 or 9
   pub state-first : event blank 3 9 ≡ done 15 blank
   pub refusals : journal pair (eventsOf ((3 ∷ 2 ∷ []) ++ step 2 ++ step 0 ++ release 0 ++ request 0 ++ request 0))

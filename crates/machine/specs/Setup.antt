@@ -46,10 +46,17 @@ numberChecks c =
     ∷ check answer.names (leb (names c) 64)
     ∷ []
 
--- "19 when a closed number is not below k, after 5, and 20 when no pad stays open, next" (document 02, e). No bit of the number is set
--- from k on exactly when it is below 2^k.
+-- "19 when a closed number is not below k" (document 02, e): no bit is set from k on exactly when the number is below 2^k.
+abbrev pub insideCheck : Setup → Check
+insideCheck c = check answer.closedName (ltb (c .closed) (2 ^ names c))
+
+-- "20 when no pad stays open"
+abbrev pub openCheck : Setup → Check
+openCheck c = check answer.noneOpen (ltb 0 (openNames c))
+
+-- 19 "after 5, and 20 .. next"
 abbrev pub closedChecks : Setup → List Check
-closedChecks c = check answer.closedName (ltb (c .closed) (2 ^ names c)) ∷ check answer.noneOpen (ltb 0 (openNames c)) ∷ []
+closedChecks c = insideCheck c ∷ openCheck c ∷ []
 
 abbrev pub setupChecks : Setup → List Check
 setupChecks c = numberChecks c ++ closedChecks c
