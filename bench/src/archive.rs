@@ -3,10 +3,20 @@
 //! Every call returns for every argument and writes only to the slice it is
 //! lent, so the wrappers are safe. An empty slice of Rust is not null either.
 
-use std::mem::{offset_of, size_of, transmute};
+use std::array::from_fn;
+use std::mem::{offset_of, size_of};
 
 /// Length of a state's image.
-pub const IMAGE_BYTES: usize = 534;
+pub const IMAGE_BYTES: usize = PROCESS_AT + 6 * 64;
+
+/// Where the image has the closed names, low byte first, and what follows.
+pub const CLOSED_AT: usize = 4;
+pub const GATE_AT: usize = CLOSED_AT + 8;
+pub const QUEUED_AT: usize = GATE_AT + 1;
+pub const QUEUE_AT: usize = QUEUED_AT + 1;
+pub const COUNTERS_AT: usize = QUEUE_AT + 64;
+pub const WORDS_AT: usize = COUNTERS_AT + 16;
+pub const PROCESS_AT: usize = WORDS_AT + 64;
 
 /// One process.
 #[repr(C)]
@@ -28,6 +38,8 @@ pub struct Setup {
     pub leaves: u8,
     pub segments: u8,
     pub bits: u8,
+    /// Bit p is 1 where name p is closed.
+    pub closed: u64,
 }
 
 /// The whole state.
@@ -97,15 +109,18 @@ pub struct Part {
 
 const _: () = {
     assert!(size_of::<Process>() == 6);
-    assert!(size_of::<State>() == IMAGE_BYTES);
-    assert!(offset_of!(State, gate) == 4);
-    assert!(offset_of!(State, queued) == 5);
-    assert!(offset_of!(State, queue) == 6);
-    assert!(offset_of!(State, counters) == 70);
-    assert!(offset_of!(State, words) == 86);
-    assert!(offset_of!(State, process) == 150);
-    assert!(size_of::<Done>() == 535);
-    assert!(offset_of!(Done, state) == 1);
+    assert!(size_of::<Setup>() == 16);
+    assert!(offset_of!(Setup, closed) == 8);
+    assert!(size_of::<State>() == 552);
+    assert!(offset_of!(State, gate) == 16);
+    assert!(offset_of!(State, queued) == 17);
+    assert!(offset_of!(State, queue) == 18);
+    assert!(offset_of!(State, counters) == 82);
+    assert!(offset_of!(State, words) == 98);
+    assert!(offset_of!(State, process) == 162);
+    assert!(size_of::<Done>() == 560);
+    assert!(offset_of!(Done, state) == 8);
+    assert!(IMAGE_BYTES == simulator::IMAGE_BYTES);
     assert!(size_of::<Report>() == 3);
     assert!(size_of::<Written>() == 16);
     assert!(offset_of!(Written, size) == 8);
@@ -122,6 +137,14 @@ mod calls {
     extern "C" {
         pub fn zevgorim_setup(n: u32, l: u32, g: u32, b: u32) -> Done;
         pub fn zevgorim_partial_setup(n: u32, l: u32, g: u32, b: u32, count: u64) -> Done;
+        pub fn zevgorim_closed_setup(
+            n: u32,
+            l: u32,
+            g: u32,
+            b: u32,
+            closed: *const u8,
+            closed_len: usize,
+        ) -> Done;
         pub fn zevgorim_event(state: State, kind: u32, process: u32) -> Done;
         pub fn zevgorim_request(state: State, process: u32) -> Done;
         pub fn zevgorim_step(state: State, process: u32) -> Done;
@@ -175,19 +198,82 @@ mod calls {
     }
 }
 
+/// The bytes of an image from a place on.
+#[inline]
+fn part<const SIZE: usize>(image: &[u8; IMAGE_BYTES], at: usize) -> [u8; SIZE] {
+    from_fn(|place| image[at + place])
+}
+
 impl State {
     /// The state that an image describes, in range or not.
-    #[inline]
-    pub fn from_image(image: [u8; IMAGE_BYTES]) -> State {
-        // SAFETY: both are 534 bytes, and any byte is a number of the state.
-        unsafe { transmute(image) }
+    pub fn from_image(image: &[u8; IMAGE_BYTES]) -> State {
+        let [processes, leaves, segments, bits] = part(image, 0);
+        State {
+            setup: Setup {
+                processes,
+                leaves,
+                segments,
+                bits,
+                closed: u64::from_le_bytes(part(image, CLOSED_AT)),
+            },
+            gate: image[GATE_AT] as i8,
+            queued: image[QUEUED_AT],
+            queue: part(image, QUEUE_AT),
+            counters: part(image, COUNTERS_AT),
+            words: part(image, WORDS_AT),
+            process: from_fn(|p| Process::from_image(part(image, PROCESS_AT + 6 * p))),
+        }
     }
 
     /// The image of the state.
-    #[inline]
     pub fn to_image(self) -> [u8; IMAGE_BYTES] {
-        // SAFETY: both are 534 bytes, and a state has no padding.
-        unsafe { transmute(self) }
+        let mut image = [0; IMAGE_BYTES];
+        let mut put = |at: usize, bytes: &[u8]| image[at..at + bytes.len()].copy_from_slice(bytes);
+        put(0, &self.setup.numbers());
+        put(CLOSED_AT, &self.setup.closed.to_le_bytes());
+        put(GATE_AT, &[self.gate as u8, self.queued]);
+        put(QUEUE_AT, &self.queue);
+        put(COUNTERS_AT, &self.counters);
+        put(WORDS_AT, &self.words);
+        put(
+            PROCESS_AT,
+            self.process.map(Process::to_image).as_flattened(),
+        );
+        image
+    }
+}
+
+impl Setup {
+    /// N, L, g and b.
+    pub fn numbers(&self) -> [u8; 4] {
+        [self.processes, self.leaves, self.segments, self.bits]
+    }
+}
+
+impl Process {
+    #[inline]
+    fn from_image([stage, node, segment, name, steps, returns]: [u8; 6]) -> Process {
+        Process {
+            stage,
+            node,
+            segment,
+            name,
+            steps,
+            returns,
+        }
+    }
+
+    #[inline]
+    fn to_image(self) -> [u8; 6] {
+        let Process {
+            stage,
+            node,
+            segment,
+            name,
+            steps,
+            returns,
+        } = self;
+        [stage, node, segment, name, steps, returns]
     }
 }
 
@@ -199,6 +285,11 @@ pub fn setup(n: u32, l: u32, g: u32, b: u32) -> Done {
 #[inline]
 pub fn partial_setup([n, l, g, b]: [u32; 4], count: u64) -> Done {
     unsafe { calls::zevgorim_partial_setup(n, l, g, b, count) }
+}
+
+#[inline]
+pub fn closed_setup([n, l, g, b]: [u32; 4], closed: &[u8]) -> Done {
+    unsafe { calls::zevgorim_closed_setup(n, l, g, b, closed.as_ptr(), closed.len()) }
 }
 
 #[inline]

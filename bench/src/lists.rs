@@ -1,5 +1,6 @@
 //! Setups and lists of events, all from a seed.
 
+use simulator::calls::reached;
 use simulator::cases::schedule::{ListMaker, Plan, Schedule, SCHEDULES};
 use simulator::random::Random;
 use simulator::State;
@@ -16,6 +17,8 @@ pub struct Kind {
     /// Its words in the table.
     pub title: &'static str,
     pub setup: Setup,
+    /// The names that its setup closes.
+    closed: &'static [u8],
     /// Arbitrary events among 64, nearly all of them refused.
     noise: usize,
 }
@@ -25,50 +28,110 @@ pub const KINDS: [Kind; 6] = [
         word: "light",
         title: "light contention: 8 processes, 64 names",
         setup: [8, 16, 2, 2],
+        closed: &[],
         noise: 0,
     },
     Kind {
         word: "heavy",
         title: "heavy contention: 64 processes, 64 names",
         setup: [64, 16, 2, 2],
+        closed: &[],
         noise: 0,
     },
     Kind {
         word: "queues",
         title: "full queues: 64 processes, 2 names",
         setup: [64, 2, 1, 1],
+        closed: &[],
         noise: 0,
     },
     Kind {
         word: "morning",
         title: "a club's morning: 12 processes, 8 names",
         setup: [12, 4, 2, 1],
+        closed: &[],
         noise: 0,
     },
     Kind {
         word: "rows",
         title: "long rows: 64 processes, 2 leaves of 8 segments of 4 bits",
         setup: [64, 2, 8, 4],
+        closed: &[],
         noise: 0,
     },
     Kind {
         word: "refusals",
         title: "refusals: heavy contention, 1 event in 4 arbitrary",
         setup: [64, 16, 2, 2],
+        closed: &[],
         noise: 16,
     },
 ];
 
+/// A quarter of 64 names: of 16 leaves a whole one, two other segments, and
+/// names by themselves.
+pub const QUARTER: [u8; 16] = [0, 2, 3, 8, 9, 10, 11, 17, 22, 31, 32, 33, 40, 45, 54, 63];
+
+/// The same with closed names.
+const CLOSED_KINDS: [Kind; 6] = [
+    Kind {
+        word: "light-closed",
+        title: "light contention, 16 names closed",
+        closed: &QUARTER,
+        ..KINDS[0]
+    },
+    Kind {
+        word: "heavy-closed",
+        title: "heavy contention, 16 names closed",
+        closed: &QUARTER,
+        ..KINDS[1]
+    },
+    Kind {
+        word: "queues-closed",
+        title: "full queues, 1 name closed",
+        closed: &[0],
+        ..KINDS[2]
+    },
+    Kind {
+        word: "morning-closed",
+        title: "a club's morning, 2 names closed",
+        closed: &[1, 6],
+        ..KINDS[3]
+    },
+    Kind {
+        word: "rows-closed",
+        title: "long rows, 16 names closed",
+        closed: &QUARTER,
+        ..KINDS[4]
+    },
+    Kind {
+        word: "refusals-closed",
+        title: "refusals, 16 names closed",
+        closed: &QUARTER,
+        ..KINDS[5]
+    },
+];
+
+/// Every kind, those with closed names last.
+pub fn kinds() -> impl Iterator<Item = &'static Kind> {
+    KINDS.iter().chain(&CLOSED_KINDS)
+}
+
 impl Kind {
     pub fn named(word: &str) -> Option<&'static Kind> {
-        KINDS.iter().find(|kind| kind.word == word)
+        kinds().find(|kind| kind.word == word)
+    }
+
+    /// The fresh state of its setup.
+    pub fn start(&self) -> State {
+        reached::closed(self.setup, self.closed)
     }
 
     /// A list of as many events: anybody moves next, by an event that its
     /// stage accepts. Always the same list.
     pub fn list(&self, count: usize) -> Vec<u8> {
         let mut rng = Random::new(1);
-        let mut maker = maker(&mut rng, self.setup, Schedule::Uniform);
+        let mut maker = maker(&mut rng, self.start(), Schedule::Uniform);
         for _ in 0..count {
             if maker.rng.chance(self.noise, 64) {
                 maker.push_arbitrary();
@@ -86,13 +149,13 @@ pub fn fresh([n, l, g, b]: Setup) -> State {
     State::setup(n, l, g, b).expect("an accepted setup")
 }
 
-fn maker(rng: &mut Random, setup: Setup, schedule: Schedule) -> ListMaker<'_> {
+fn maker(rng: &mut Random, state: State, schedule: Schedule) -> ListMaker<'_> {
     let plan = Plan {
         schedule,
-        pool: setup[0],
+        pool: state.n,
         noise: 8,
     };
-    ListMaker::new(rng, setup, plan)
+    ListMaker::from_state(rng, state, plan)
 }
 
 /// An accepted setup of the shape L, g, b; N is below, at or above k.
@@ -146,24 +209,25 @@ pub fn count(rng: &mut Random) -> usize {
     }
 }
 
-/// A list of as many events. One in eight is of any bytes; the others mix
-/// schedules, crowds at the gate, batches in lock-step and arbitrary events.
-pub fn any(rng: &mut Random, setup: Setup, count: usize) -> Vec<u8> {
+/// A list of as many events from a fresh state. One in eight is of any bytes;
+/// the others mix schedules, crowds at the gate, batches in lock-step and
+/// arbitrary events.
+pub fn any(rng: &mut Random, start: &State, count: usize) -> Vec<u8> {
     if rng.chance(1, 8) {
         return (0..2 * count).map(|_| rng.byte()).collect();
     }
     let schedule = SCHEDULES[rng.below(SCHEDULES.len())];
     let pool = if rng.chance(1, 2) {
-        setup[0]
+        start.n
     } else {
-        rng.between(1, setup[0])
+        rng.between(1, start.n)
     };
     let plan = Plan {
         schedule,
         pool,
         noise: 8,
     };
-    let mut maker = ListMaker::new(rng, setup, plan);
+    let mut maker = ListMaker::from_state(rng, start.clone(), plan);
     while maker.events.len() < 2 * count {
         part(&mut maker);
     }
@@ -207,8 +271,7 @@ fn narrow(maker: &mut ListMaker, most: usize) {
 
 /// A list for a state in range, reached or hand-made.
 pub fn after(rng: &mut Random, state: &State, count: usize) -> Vec<u8> {
-    let mut maker = maker(rng, [state.n, state.l, state.g, state.b], Schedule::Uniform);
-    maker.state = state.clone();
+    let mut maker = maker(rng, state.clone(), Schedule::Uniform);
     maker.lively(count);
     maker.events
 }

@@ -15,7 +15,7 @@ use std::{env, io};
 const USAGE: &str = "usage: bench differ [SEED] [EVENTS]
        bench speed
        bench count KIND WHICH [TIMES]
-KIND: light, heavy, queues, morning, rows or refusals
+KIND: light, heavy, queues, morning, rows or refusals, or one of them with -closed after it
 WHICH: archive-list, simulator-list, archive-event or simulator-event";
 
 /// Whether all is well; none for bad usage.

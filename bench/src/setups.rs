@@ -1,38 +1,76 @@
-//! Times of the setup and of its second form.
+//! Times of the setup in its three forms.
 
+use std::fmt;
 use std::hint::black_box;
 
 use crate::archive;
-use crate::lists::Setup;
+use crate::lists::{Setup, QUARTER};
 use crate::speed::{best, BATCH};
 
 /// A setup of most numbers, and one of few.
 const SETUPS: [Setup; 2] = [[64, 16, 2, 2], [12, 4, 2, 1]];
 
-/// A setup with a count, or the whole one, and what both sides last gave.
+/// All names of the largest setup but one.
+const MOST: [u8; 63] = {
+    let mut names = [0; 63];
+    let mut place = 0;
+    while place < names.len() {
+        names[place] = place as u8;
+        place += 1;
+    }
+    names
+};
+
+/// The names that a form closes, for each of the setups.
+const CLOSED: [[&[u8]; 3]; 2] = [
+    [&[], &QUARTER, &MOST],
+    [&[], &[1, 6], &[0, 1, 2, 3, 4, 5, 6]],
+];
+
+/// How a setup is asked for.
+#[derive(Clone, Copy)]
+enum Form {
+    Whole,
+    Count(u64),
+    Closed(&'static [u8]),
+}
+
+impl fmt::Display for Form {
+    fn fmt(&self, out: &mut fmt::Formatter) -> fmt::Result {
+        match self {
+            Form::Whole => write!(out, "whole"),
+            Form::Count(count) => write!(out, "count {count}"),
+            Form::Closed(names) => write!(out, "{} closed", names.len()),
+        }
+    }
+}
+
+/// A setup in a form, and what both sides last gave.
 struct Made {
     setup: Setup,
-    count: Option<u64>,
+    form: Form,
     archive: archive::State,
     simulator: simulator::State,
 }
 
 impl Made {
-    fn new(setup: Setup, count: Option<u64>) -> Made {
+    fn new(setup: Setup, form: Form) -> Made {
         Made {
             setup,
-            count,
-            archive: archive::State::from_image(simulator::State::BLANK.to_image()),
+            form,
+            archive: archive::State::from_image(&simulator::State::BLANK.to_image()),
             simulator: simulator::State::BLANK,
         }
     }
 
     fn archive(&mut self) {
         for _ in 0..BATCH {
-            let [n, l, g, b] = black_box(self.setup).map(u32::from);
-            let done = match black_box(self.count) {
-                Some(count) => archive::partial_setup([n, l, g, b], count),
-                None => archive::setup(n, l, g, b),
+            let setup = black_box(self.setup).map(u32::from);
+            let [n, l, g, b] = setup;
+            let done = match black_box(self.form) {
+                Form::Whole => archive::setup(n, l, g, b),
+                Form::Count(count) => archive::partial_setup(setup, count),
+                Form::Closed(names) => archive::closed_setup(setup, names),
             };
             self.archive = black_box(done).state;
         }
@@ -41,9 +79,10 @@ impl Made {
     fn simulator(&mut self) {
         for _ in 0..BATCH {
             let [n, l, g, b] = black_box(self.setup);
-            let done = match black_box(self.count) {
-                Some(count) => simulator::State::partial_setup(n, l, g, b, count),
-                None => simulator::State::setup(n, l, g, b),
+            let done = match black_box(self.form) {
+                Form::Whole => simulator::State::setup(n, l, g, b),
+                Form::Count(count) => simulator::State::partial_setup(n, l, g, b, count),
+                Form::Closed(names) => simulator::State::closed_setup(n, l, g, b, names),
             };
             self.simulator = black_box(done).expect("an accepted setup");
         }
@@ -64,12 +103,13 @@ pub fn print() {
     println!("\nSetup, nanoseconds for a call:\n");
     println!("| setup | archive | simulator | ratio |");
     println!("|---|--:|--:|--:|");
-    for setup in SETUPS {
+    for (setup, closed) in SETUPS.into_iter().zip(CLOSED) {
         let [n, l, g, b] = setup;
         let every = u64::from(l) - 1;
-        for count in [None, Some(0), Some(every / 2), Some(every)] {
-            let form = count.map_or("whole".to_string(), |count| format!("count {count}"));
-            let cells = Made::new(setup, count).cells();
+        let counts = [0, every / 2, every].map(Form::Count);
+        let forms = [Form::Whole].into_iter().chain(counts);
+        for form in forms.chain(closed.map(Form::Closed)) {
+            let cells = Made::new(setup, form).cells();
             println!("| {n}, {l}, {g}, {b}: {form} | {cells} |");
         }
     }

@@ -10,7 +10,7 @@ use simulator::day_file::lay_out;
 
 use crate::archive;
 use crate::dearest;
-use crate::lists::{fresh, Kind, Setup, KINDS, MOST_EVENTS};
+use crate::lists::{kinds, Kind, Setup, KINDS, MOST_EVENTS};
 use crate::setups;
 
 /// Least rounds of a measurement, and least time.
@@ -56,8 +56,8 @@ impl<State: Clone> Side<State> {
 impl Bout {
     /// The list of a kind in calls of that many events.
     pub fn new(kind: &Kind, length: usize) -> Bout {
-        let simulator = fresh(kind.setup);
-        let archive = archive::State::from_image(simulator.to_image());
+        let simulator = kind.start();
+        let archive = archive::State::from_image(&simulator.to_image());
         Bout {
             events: kind.list(MOST_EVENTS),
             length,
@@ -184,7 +184,7 @@ fn print_lists() {
     println!("List call, nanoseconds for an event, in calls of 16, 256 and 16,370 events:\n");
     println!("| list | 16: archive | simulator | ratio | 256: archive | simulator | ratio | 16,370: archive | simulator | ratio |");
     println!("|---|--:|--:|--:|--:|--:|--:|--:|--:|--:|");
-    for kind in &KINDS {
+    for kind in kinds() {
         let cells = LENGTHS.map(|length| list_cells(kind, length));
         println!("| {} | {} |", kind.title, cells.join(" | "));
     }
@@ -196,7 +196,7 @@ fn print_events() {
     );
     println!("| list | archive | simulator | ratio |");
     println!("|---|--:|--:|--:|");
-    for kind in &KINDS {
+    for kind in kinds() {
         println!("| {} | {} |", kind.title, event_cells(kind));
     }
 }

@@ -9,7 +9,7 @@ use super::large::{enlarged, setup_answer};
 use super::lent::Lent;
 use super::Differ;
 use crate::archive;
-use crate::lists::{any_setup, Setup};
+use crate::lists::{any_setup, fresh, Setup};
 
 /// The list that the call made, none if it was refused, once its answer and
 /// figure are right and every byte past the list is as it was lent.
@@ -23,7 +23,7 @@ fn made(setup: Setup, room: usize, salt: u8) -> Result<Vec<u8>, Difference> {
     if got.answer != 0 {
         same("the size of a refused list", got.size, 0)?;
     }
-    let fits = got.size <= LIST_BYTES && got.size % 2 == 0;
+    let fits = got.size <= LIST_BYTES && got.size.is_multiple_of(2);
     same("whether the list is even and short enough", fits, true)?;
     let list = out.lend()[..got.size].to_vec();
     expected.lend()[..got.size].copy_from_slice(&list);
@@ -70,7 +70,7 @@ impl Differ {
             return Ok(());
         }
         let refused = self.tally.refused_events();
-        let after = self.list_of(setup, &list)?;
+        let after = self.list_of(&fresh(setup), &list)?;
         let refused = self.tally.refused_events() - refused;
         same(
             "how many events of the dearest list are refused",

@@ -5,7 +5,9 @@ use std::{fs, io};
 
 use simulator::State;
 
-use crate::archive;
+use crate::archive::{
+    self, CLOSED_AT, COUNTERS_AT, GATE_AT, PROCESS_AT, QUEUED_AT, QUEUE_AT, WORDS_AT,
+};
 
 /// Where the day file of a difference is written.
 const REPLAY: &str = "target/difference.day";
@@ -58,13 +60,19 @@ pub fn first_difference(got: &[u8], expected: &[u8]) -> usize {
 /// What stands at a place of a state's image.
 fn place(at: usize) -> String {
     let fields = ["stage", "node", "segment", "name", "steps", "returns"];
-    let heads = ["N", "L", "g", "b", "the gate word", "the queue's length"];
+    let heads = ["N", "L", "g", "b"];
     match at {
-        0..=5 => heads[at].to_string(),
-        6..=69 => format!("queue place {}", at - 6),
-        70..=85 => format!("counter {}", at - 70),
-        86..=149 => format!("segment word {}", at - 86),
-        _ => format!("{} of process {}", fields[(at - 150) % 6], (at - 150) / 6),
+        0..CLOSED_AT => heads[at].to_string(),
+        CLOSED_AT..GATE_AT => format!("byte {} of the closed names", at - CLOSED_AT),
+        GATE_AT => "the gate word".to_string(),
+        QUEUED_AT => "the queue's length".to_string(),
+        QUEUE_AT..COUNTERS_AT => format!("queue place {}", at - QUEUE_AT),
+        COUNTERS_AT..WORDS_AT => format!("counter {}", at - COUNTERS_AT),
+        WORDS_AT..PROCESS_AT => format!("segment word {}", at - WORDS_AT),
+        _ => {
+            let (process, field) = ((at - PROCESS_AT) / 6, (at - PROCESS_AT) % 6);
+            format!("{} of process {process}", fields[field])
+        }
     }
 }
 

@@ -59,7 +59,7 @@ fn event_answer(state: &State, kind: u32) -> u8 {
 }
 
 impl Differ {
-    /// The setup, in both forms, with one number or more above 255.
+    /// The setup, in each of its forms, with one number or more above 255.
     pub fn large_setup(&mut self, setup: Setup) -> Check {
         let numbers = enlarged(&mut self.rng, setup);
         let [n, l, g, b] = numbers;
@@ -68,6 +68,7 @@ impl Differ {
         for got in [
             archive::setup(n, l, g, b),
             archive::partial_setup(numbers, count),
+            archive::closed_setup(numbers, &count.to_le_bytes()),
         ] {
             same(
                 "the answer to a large number",

@@ -1,8 +1,11 @@
 //! Compares the archive's calls with the simulator's.
 
+mod claim;
+mod closed;
 mod counts;
 mod dearest;
 mod difference;
+mod faults;
 mod files;
 mod large;
 mod lent;
@@ -18,7 +21,7 @@ use simulator::State;
 
 use crate::{archive, lists};
 use difference::{same, same_state, Check, Difference};
-use lists::Setup;
+use lists::{fresh, Setup};
 use tally::Tally;
 
 /// Events of the longest list that is run one event at a time, too.
@@ -40,28 +43,30 @@ fn compare(seed: u64, events: u64) -> Result<Tally, Difference> {
     let shapes = shapes::triples();
     // A difference in these shows in a day file.
     for shape in &shapes {
-        differ.list_round(*shape)?;
+        differ.open_round(*shape)?;
     }
     for case in cases::all(seed, FIRST_FILES) {
         differ.file(&case.file)?;
     }
     differ.long_writes()?;
     differ.dearest_lists()?;
+    differ.closed_setups()?;
     for shape in shapes.into_iter().cycle() {
         if differ.tally.list_events >= events {
             break;
         }
         differ.round(shape)?;
+        differ.closed_round(shape)?;
     }
     Ok(differ.tally)
 }
 
-/// The whole test; whether all agree.
+/// The whole test; whether all agree and nothing was left out.
 pub fn run(seed: u64, events: u64) -> std::io::Result<bool> {
     match compare(seed, events) {
         Ok(tally) => {
             print!("{tally}");
-            Ok(true)
+            Ok(tally.missing().is_empty())
         }
         Err(difference) => {
             println!("seed: {seed}");
@@ -72,23 +77,29 @@ pub fn run(seed: u64, events: u64) -> std::io::Result<bool> {
 }
 
 impl Differ {
+    /// A list from a fresh state, and the state after it.
+    fn list_round(&mut self, start: &State) -> Result<(Vec<u8>, State), Difference> {
+        let count = lists::count(&mut self.rng);
+        let events = lists::any(&mut self.rng, start, count);
+        let after = self.list_of(start, &events)?;
+        if count <= SHORT_LIST {
+            self.chain(start, &events)?;
+        }
+        Ok((events, after))
+    }
+
     /// One setup of the shape with its list, and the state after it.
-    fn list_round(&mut self, shape: [u8; 3]) -> Result<(Setup, Vec<u8>, State), Difference> {
+    fn open_round(&mut self, shape: [u8; 3]) -> Result<(Setup, Vec<u8>, State), Difference> {
         let setup = lists::setup(&mut self.rng, shape);
         self.setup(setup)?;
-        let count = lists::count(&mut self.rng);
-        let events = lists::any(&mut self.rng, setup, count);
-        let after = self.list_of(setup, &events)?;
-        if count <= SHORT_LIST {
-            self.chain(setup, &events)?;
-        }
+        let (events, after) = self.list_round(&fresh(setup))?;
         Ok((setup, events, after))
     }
 
     /// The same, and cases made from it.
     fn round(&mut self, shape: [u8; 3]) -> Check {
-        let (setup, events, after) = self.list_round(shape)?;
-        self.refused_list(setup, &events)?;
+        let (setup, events, after) = self.open_round(shape)?;
+        self.refused_list(&fresh(setup), &events)?;
         self.hand_made(&after)?;
         if events.len() <= 2 * SHORT_LIST || self.rng.chance(1, 4) {
             self.files(setup, &events)?;

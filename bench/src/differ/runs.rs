@@ -3,15 +3,17 @@
 use simulator::day_file::lay_out;
 use simulator::State;
 
+use super::claim::Claim;
 use super::difference::{same, same_state, Check, Difference};
+use super::faults::closed_names;
 use super::lent::Lent;
 use super::Differ;
 use crate::archive::{self, Done};
-use crate::lists::{fresh, Setup, MOST_EVENTS};
+use crate::lists::MOST_EVENTS;
 
 /// The archive's state of the same image.
 pub fn of(state: &State) -> archive::State {
-    archive::State::from_image(state.to_image())
+    archive::State::from_image(&state.to_image())
 }
 
 /// The list call on a state, which becomes the one after it: the answer and
@@ -79,8 +81,8 @@ fn event(state: &mut State, number: usize, kind: u8, process: u8) -> Result<u8, 
 
 /// The shortest beginning of a list that shows a difference one event at a
 /// time, or the whole list.
-fn shortest(setup: Setup, events: &[u8]) -> &[u8] {
-    let mut state = fresh(setup);
+fn shortest<'e>(start: &State, events: &'e [u8]) -> &'e [u8] {
+    let mut state = start.clone();
     for (number, pair) in events.chunks_exact(2).enumerate() {
         let differs = list(&mut state.clone(), pair, Lent::new(4, 0)).is_err();
         if differs || event(&mut state, number, pair[0], pair[1]).is_err() {
@@ -97,19 +99,29 @@ fn same_text(file: &[u8]) -> bool {
     out[..size] == *simulator::file_text(file).as_bytes()
 }
 
-/// The difference with its setup and list as a day file.
-fn as_file(difference: Difference, setup: Setup, events: &[u8]) -> Difference {
-    let shown = shortest(setup, events);
+/// The day file of a fresh state that closes no name.
+fn day_file(start: &State, events: &[u8]) -> Option<Vec<u8>> {
+    let setup = [start.n, start.l, start.g, start.b];
+    (start.closed == 0).then(|| lay_out(setup, events))
+}
+
+/// The difference with its setup and list, as a day file if there is one.
+fn as_case(difference: Difference, start: &State, events: &[u8]) -> Difference {
+    let shown = shortest(start, events);
     let count = shown.len() / 2;
-    let file = lay_out(setup, shown);
     let mut difference = difference
-        .given_figures("setup", &setup)
-        .given("events", events.len() / 2)
-        .given("events in the day file", count);
+        .given_figures("setup", &[start.n, start.l, start.g, start.b])
+        .given("events", events.len() / 2);
+    let Some(file) = day_file(start, shown) else {
+        return difference
+            .given_figures("closed names", &closed_names(start))
+            .given_figures("events that show it", shown);
+    };
+    difference = difference.given("events in the day file", count);
     if count > MOST_EVENTS {
         difference = difference.given("too many for a day file, which has at most", MOST_EVENTS);
     } else if same_text(&file) {
-        difference = difference.given("its lines", "the same, only the state differs");
+        difference = difference.given("its lines", "the same");
     }
     difference.replay(file)
 }
@@ -124,40 +136,44 @@ impl Differ {
     /// A list on a state, as `list` does it, and its place in the tally.
     fn counted(&mut self, state: &mut State, events: &[u8], journal: Lent) -> Check {
         let (answer, mut journal) = list(state, events, journal)?;
-        self.tally.lists += 1;
-        if answer == 0 {
-            self.tally.add_list(&journal.lend()[..2 * events.len()]);
-        } else {
-            self.tally.refused_lists += 1;
-        }
+        let room = if answer == 0 { 2 * events.len() } else { 0 };
+        self.tally.add_list(state, answer, &journal.lend()[..room]);
         Ok(())
     }
 
-    /// The list of a setup, and the state after it.
-    pub fn list_of(&mut self, setup: Setup, events: &[u8]) -> Result<State, Difference> {
+    /// The list of a fresh state, and the state after it.
+    pub fn list_of(&mut self, start: &State, events: &[u8]) -> Result<State, Difference> {
         let journal = self.journal(events);
-        let mut state = fresh(setup);
+        let mut state = start.clone();
         self.counted(&mut state, events, journal)
-            .map_err(|found| as_file(found, setup, events))?;
+            .map_err(|found| as_case(found, start, events))?;
         Ok(state)
     }
 
-    /// The list of a setup, one event at a time.
-    pub fn chain(&mut self, setup: Setup, events: &[u8]) -> Check {
-        let mut state = fresh(setup);
+    /// The list of a fresh state, one event at a time, with the claim at every
+    /// moment.
+    pub fn chain(&mut self, start: &State, events: &[u8]) -> Check {
+        let mut state = start.clone();
+        let mut claim = Claim::default();
         for (number, pair) in events.chunks_exact(2).enumerate() {
             let answer = event(&mut state, number, pair[0], pair[1])
-                .map_err(|found| as_file(found, setup, events))?;
-            self.tally.add_event(pair[0], answer);
+                .and_then(|answer| claim.check(&state).map(|()| answer))
+                .map_err(|found| as_case(found, start, &events[..2 * number + 2]))?;
+            self.tally.add_event(&state, pair[0], answer);
+            self.tally.moments += 1;
         }
         Ok(())
     }
 
-    /// The list of a setup with a byte too many, too little journal or both.
-    pub fn refused_list(&mut self, setup: Setup, events: &[u8]) -> Check {
+    /// The list of a fresh state with a byte too many, too little journal or
+    /// both.
+    pub fn refused_list(&mut self, start: &State, events: &[u8]) -> Check {
         let (events, journal) = self.damage(events);
-        self.refusable(&mut fresh(setup), &events, journal)
-            .map_err(|found| found.replay(lay_out(setup, &events)))
+        self.refusable(&mut start.clone(), &events, journal)
+            .map_err(|found| match day_file(start, &events) {
+                Some(file) => found.replay(file),
+                None => found,
+            })
     }
 
     /// A list that may be refused, on any state.
@@ -204,7 +220,7 @@ impl Differ {
         let image = state.to_image();
         let answer =
             event(state, 0, kind, process).map_err(|found| found.given_figures("state", &image))?;
-        self.tally.add_event(kind, answer);
+        self.tally.add_event(state, kind, answer);
         Ok(())
     }
 }

@@ -7,7 +7,10 @@ use simulator::State;
 use super::difference::{same, Check};
 use super::runs::of;
 use super::Differ;
-use crate::{archive, lists};
+use crate::archive::{
+    self, CLOSED_AT, COUNTERS_AT, GATE_AT, PROCESS_AT, QUEUED_AT, QUEUE_AT, WORDS_AT,
+};
+use crate::lists;
 
 /// Numbers about the limits of bytes, processes, names and the gate word.
 const EDGES: [u8; 16] = [
@@ -18,16 +21,17 @@ const EDGES: [u8; 16] = [
 fn place(rng: &mut Random, state: &State) -> usize {
     let n = usize::from(state.n);
     let len = usize::from(state.queue_len);
-    match rng.below(10) {
+    match rng.below(11) {
         0 => rng.below(4),
-        1 => 4,
-        2 => 5,
-        3 => 6 + (len + rng.below(3)).clamp(1, 64) - 1,
-        4 => 6 + rng.below(64),
-        5 => 70 + rng.below(16),
-        6 => 86 + rng.below(64),
-        7 => 150 + rng.below(6 * 64),
-        _ => 150 + rng.below(6 * n),
+        1 => GATE_AT,
+        2 => QUEUED_AT,
+        3 => QUEUE_AT + (len + rng.below(3)).clamp(1, 64) - 1,
+        4 => QUEUE_AT + rng.below(64),
+        5 => COUNTERS_AT + rng.below(16),
+        6 => WORDS_AT + rng.below(64),
+        7 => PROCESS_AT + rng.below(6 * 64),
+        8 => CLOSED_AT + rng.below(8),
+        _ => PROCESS_AT + rng.below(6 * n),
     }
 }
 
@@ -100,12 +104,12 @@ impl Differ {
         Ok(())
     }
 
-    /// Every call on a state, hand-made or of a smaller count. The events suit the state, or the
-    /// one it was made from if it is broken.
+    /// Every call on a state, hand-made, of a smaller count or fresh with
+    /// closed names. The events suit the state, or the one it was made from if
+    /// it is broken.
     pub fn state(&mut self, from: &State, state: &State) -> Check {
         let in_range = state.in_range();
-        self.tally.states += 1;
-        self.tally.broken_states += u64::from(!in_range);
+        self.tally.add_state(state, in_range);
         self.reports(state)?;
         let source = if in_range { state } else { from };
         let count = self.rng.below(48);

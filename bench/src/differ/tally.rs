@@ -2,12 +2,18 @@
 
 use std::fmt;
 
+use simulator::State;
+
+use super::faults::FAULTS;
+
 /// What an event can answer.
 const EVENT_ANSWERS: [usize; 7] = [0, 6, 7, 8, 9, 12, 15];
 /// What writing a day file can answer.
 const WRITE_ANSWERS: [usize; 9] = [0, 1, 2, 3, 4, 5, 14, 16, 17];
 /// What the call of the dearest list can answer.
 const DEAREST_ANSWERS: [usize; 7] = [0, 1, 2, 3, 4, 5, 18];
+/// What a setup with a list of closed names can answer.
+const CLOSED_ANSWERS: [usize; 8] = [0, 1, 2, 3, 4, 5, 19, 20];
 
 #[derive(Default)]
 pub struct Tally {
@@ -50,6 +56,25 @@ pub struct Tally {
     /// Calls of the dearest list by their answer.
     pub dearest_answers: [u64; 19],
     pub large_dearest: u64,
+    /// Moments of lists at which the claim was looked at.
+    pub moments: u64,
+    /// Setups with a list of closed names, by their answer too.
+    pub closed_setups: u64,
+    pub closed_answers: [u64; 21],
+    /// Accepted ones: that close a name, with an empty list, with a name named
+    /// twice, and with a list longer than the names.
+    pub names_closed: u64,
+    pub none_closed: u64,
+    pub doubled: u64,
+    pub longer: u64,
+    /// On states with closed names.
+    pub closed_lists: u64,
+    pub refused_closed_lists: u64,
+    pub closed_list_events: u64,
+    pub closed_events: u64,
+    pub closed_states: u64,
+    pub broken_closed_states: u64,
+    pub faults: [u64; FAULTS.len()],
 }
 
 /// What was compared, how often, and how often a part of it.
@@ -63,19 +88,48 @@ fn given(answers: &[u64]) -> String {
 }
 
 impl Tally {
-    /// Adds the events of an accepted list, by its journal.
-    pub fn add_list(&mut self, journal: &[u8]) {
-        self.list_events += journal.len() as u64 / 4;
+    /// Adds a list on a state, its events by the journal.
+    pub fn add_list(&mut self, state: &State, answer: u8, journal: &[u8]) {
+        let refused = u64::from(answer != 0);
+        let events = journal.len() as u64 / 4;
+        self.lists += 1;
+        self.refused_lists += refused;
+        self.list_events += events;
+        if state.closed != 0 {
+            self.closed_lists += 1;
+            self.refused_closed_lists += refused;
+            self.closed_list_events += events;
+        }
         for entry in journal.chunks_exact(4) {
             self.answers[usize::from(entry[0] & 15)] += 1;
         }
     }
 
-    /// Adds an event by itself.
-    pub fn add_event(&mut self, kind: u8, answer: u8) {
+    /// Adds an event by itself on a state.
+    pub fn add_event(&mut self, state: &State, kind: u8, answer: u8) {
         self.single_events += 1;
+        self.closed_events += u64::from(state.closed != 0);
         self.answers[usize::from(answer & 15)] += 1;
         if let Some(count) = self.kinds.get_mut(usize::from(kind)) {
+            *count += 1;
+        }
+    }
+
+    /// Adds a state that is given to every call.
+    pub fn add_state(&mut self, state: &State, in_range: bool) {
+        let closes = u64::from(state.closed != 0);
+        let broken = u64::from(!in_range);
+        self.states += 1;
+        self.broken_states += broken;
+        self.closed_states += closes;
+        self.broken_closed_states += closes * broken;
+    }
+
+    /// Adds a setup with a list of closed names, and whether it closes any.
+    pub fn add_closed_setup(&mut self, answer: u8, closes: bool) {
+        self.closed_setups += 1;
+        self.names_closed += u64::from(closes);
+        if let Some(count) = self.closed_answers.get_mut(usize::from(answer)) {
             *count += 1;
         }
     }
@@ -103,11 +157,12 @@ impl Tally {
         self.answers[1..].iter().sum()
     }
 
-    /// Every kind of comparison.
-    fn lines(&self) -> [Line; 23] {
+    /// Setups and lists.
+    fn run_lines(&self) -> Vec<Line> {
         let refused = |count| Some(("refused", count));
         let [request, step, release] = self.kinds;
-        [
+        let smaller = "of these with a smaller count, its state given to every call";
+        vec![
             ("setups", self.setups, refused(self.refused_setups)),
             ("setups with a number above 255", self.large_setups, None),
             (
@@ -115,11 +170,7 @@ impl Tally {
                 self.partial_setups,
                 refused(self.refused_partial),
             ),
-            (
-                "of these with a smaller count, its state given to every call",
-                self.smaller_counts,
-                None,
-            ),
+            (smaller, self.smaller_counts, None),
             ("lists", self.lists, refused(self.refused_lists)),
             ("events in lists", self.list_events, None),
             ("events one at a time", self.single_events, None),
@@ -127,15 +178,53 @@ impl Tally {
             ("events by `step`", step, None),
             ("events by `release`", release, None),
             ("events with a number above 255", self.large_events, None),
+            ("moments of lists with the claim", self.moments, None),
+        ]
+    }
+
+    /// Setups that close names, and what follows them.
+    fn closed_lines(&self) -> Vec<Line> {
+        let refused = |count| Some(("refused", count));
+        let lists = "lists on states with closed names";
+        let mut lines = vec![
             (
-                "hand-made states",
-                self.states,
-                Some(("broken", self.broken_states)),
+                "setups with a list of closed names",
+                self.closed_setups,
+                refused(self.closed_setups - self.closed_answers[0]),
             ),
+            ("of these accepted, names closed", self.names_closed, None),
+            ("of these accepted, an empty list", self.none_closed, None),
+            ("of these accepted, a name twice", self.doubled, None),
+            ("of these accepted, more than k", self.longer, None),
+            (lists, self.closed_lists, refused(self.refused_closed_lists)),
+            ("events in these", self.closed_list_events, None),
+            (
+                "events one at a time on such states",
+                self.closed_events,
+                None,
+            ),
+            (
+                "hand-made states with closed names",
+                self.closed_states,
+                Some(("broken", self.broken_closed_states)),
+            ),
+        ];
+        let faults = FAULTS.iter().zip(self.faults);
+        lines.extend(faults.map(|(&(what, _), count)| (what, count, None)));
+        lines
+    }
+
+    /// Hand-made states, reports, files and dearest lists.
+    fn other_lines(&self) -> Vec<Line> {
+        let refused = |count| Some(("refused", count));
+        let broken = |count| Some(("broken", count));
+        let large_dearest = "dearest lists with a number above 255";
+        vec![
+            ("hand-made states", self.states, broken(self.broken_states)),
             (
                 "of these with a sum about 255",
                 self.sums,
-                Some(("broken", self.broken_sums)),
+                broken(self.broken_sums),
             ),
             ("gate reports", self.reports, None),
             ("rolls", self.rolls, None),
@@ -150,16 +239,28 @@ impl Tally {
             ("writes with a number above 255", self.large_writes, None),
             ("day files written back", self.written_back, None),
             ("dearest lists", self.dearest, refused(self.refused_dearest)),
-            (
-                "dearest lists with a number above 255",
-                self.large_dearest,
-                None,
-            ),
+            (large_dearest, self.large_dearest, None),
+        ]
+    }
+
+    /// Every kind of comparison.
+    fn lines(&self) -> Vec<Line> {
+        [self.run_lines(), self.other_lines(), self.closed_lines()].concat()
+    }
+
+    /// Calls by their answer: the words for them, how often each was given,
+    /// and which must be.
+    fn answered(&self) -> [(&'static str, &[u64], &'static [usize]); 4] {
+        [
+            ("events", &self.answers, &EVENT_ANSWERS),
+            ("writes", &self.write_answers, &WRITE_ANSWERS),
+            ("dearest lists", &self.dearest_answers, &DEAREST_ANSWERS),
+            ("closed names", &self.closed_answers, &CLOSED_ANSWERS),
         ]
     }
 
     /// What did not come up.
-    fn missing(&self) -> Vec<String> {
+    pub fn missing(&self) -> Vec<String> {
         let mut missing = Vec::new();
         for (what, count, part) in self.lines() {
             match part {
@@ -168,20 +269,9 @@ impl Tally {
                 _ => {}
             }
         }
-        for answer in EVENT_ANSWERS {
-            if self.answers[answer] == 0 {
-                missing.push(format!("events answered {answer}"));
-            }
-        }
-        for answer in WRITE_ANSWERS {
-            if self.write_answers[answer] == 0 {
-                missing.push(format!("writes answered {answer}"));
-            }
-        }
-        for answer in DEAREST_ANSWERS {
-            if self.dearest_answers[answer] == 0 {
-                missing.push(format!("dearest lists answered {answer}"));
-            }
+        for (what, counts, answers) in self.answered() {
+            let never = answers.iter().filter(|&&answer| counts[answer] == 0);
+            missing.extend(never.map(|answer| format!("{what} answered {answer}")));
         }
         missing
     }
@@ -196,10 +286,9 @@ impl fmt::Display for Tally {
             }
             writeln!(out)?;
         }
-        writeln!(out, "answers to events: {}", given(&self.answers))?;
-        writeln!(out, "answers to writes: {}", given(&self.write_answers))?;
-        let dearest = given(&self.dearest_answers);
-        writeln!(out, "answers to dearest lists: {dearest}")?;
+        for (what, counts, _) in self.answered() {
+            writeln!(out, "answers to {what}: {}", given(counts))?;
+        }
         for what in self.missing() {
             writeln!(out, "not compared: {what}")?;
         }

@@ -60,7 +60,7 @@ fn read_again(setup: Setup, events: &[u8], file: &[u8]) -> Check {
 fn written_back(read: archive::Setup, file: &[u8], mut out: Lent) -> Check {
     let part = archive::read_events(file);
     let events = &file[part.offset..part.offset + part.size];
-    let setup = [read.processes, read.leaves, read.segments, read.bits].map(u32::from);
+    let setup = read.numbers().map(u32::from);
     let mut expected = out.clone();
     expected.lend()[..file.len()].copy_from_slice(file);
     let got = archive::write_file(setup, events, out.lend());
