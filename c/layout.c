@@ -8,11 +8,15 @@ _Static_assert(sizeof(zevgorim_process) == 6 && offsetof(zevgorim_process, stage
 _Static_assert(offsetof(zevgorim_process, node) == 1 && offsetof(zevgorim_process, segment) == 2, "process");
 _Static_assert(offsetof(zevgorim_process, name) == 3 && offsetof(zevgorim_process, steps) == 4, "process");
 _Static_assert(offsetof(zevgorim_process, returns) == 5, "process");
-_Static_assert(sizeof(zevgorim_state) == 534, "state");
-_Static_assert(offsetof(zevgorim_state, gate) == 4 && offsetof(zevgorim_state, queued) == 5, "gate");
-_Static_assert(offsetof(zevgorim_state, queue) == 6 && offsetof(zevgorim_state, counters) == 70, "queue, counters");
-_Static_assert(offsetof(zevgorim_state, words) == 86 && offsetof(zevgorim_state, process) == 150, "words, processes");
-_Static_assert(sizeof(zevgorim_done) == 535 && offsetof(zevgorim_done, state) == 1, "done");
+_Static_assert(sizeof(zevgorim_setup_numbers) == 16 && offsetof(zevgorim_setup_numbers, processes) == 0, "setup");
+_Static_assert(offsetof(zevgorim_setup_numbers, leaves) == 1 && offsetof(zevgorim_setup_numbers, segments) == 2, "setup");
+_Static_assert(offsetof(zevgorim_setup_numbers, bits) == 3 && offsetof(zevgorim_setup_numbers, closed) == 8, "setup");
+_Static_assert(sizeof(zevgorim_state) == 552 && offsetof(zevgorim_state, setup) == 0, "state");
+_Static_assert(offsetof(zevgorim_state, gate) == 16 && offsetof(zevgorim_state, queued) == 17, "gate");
+_Static_assert(offsetof(zevgorim_state, queue) == 18 && offsetof(zevgorim_state, counters) == 82, "queue, counters");
+_Static_assert(offsetof(zevgorim_state, words) == 98 && offsetof(zevgorim_state, process) == 162, "words, processes");
+_Static_assert(offsetof(zevgorim_state, process[64]) == 546, "padding at the end");
+_Static_assert(sizeof(zevgorim_done) == 560 && offsetof(zevgorim_done, state) == 8, "done");
 _Static_assert(sizeof(zevgorim_report) == 3 && offsetof(zevgorim_report, free) == 1, "report");
 _Static_assert(sizeof(zevgorim_status) == 3 && offsetof(zevgorim_status, name) == 1, "status");
 _Static_assert(sizeof(zevgorim_written) == 16 && offsetof(zevgorim_written, size) == 8, "written");
@@ -44,6 +48,7 @@ static void check_fresh(void) {
     is("leaves", s.setup.leaves, 2);
     is("segments", s.setup.segments, 3);
     is("bits", s.setup.bits, 4);
+    is("closed", (long)s.setup.closed, 0);
     is("gate", s.gate, 24);
     is("counter 1", s.counters[1], 12);
     is("node of the last process", s.process[4].node, 1);
@@ -99,8 +104,12 @@ static void check_returns(void) {
     is("answer of the gate with a sum of 255", zevgorim_step(s, 0).answer, 0);
 }
 
+/* field by field, since a state has padding */
 static int same_state(zevgorim_state a, zevgorim_state b) {
-    return memcmp(&a, &b, sizeof a) == 0;
+    return a.setup.processes == b.setup.processes && a.setup.leaves == b.setup.leaves && a.setup.segments == b.setup.segments &&
+           a.setup.bits == b.setup.bits && a.setup.closed == b.setup.closed && a.gate == b.gate && a.queued == b.queued &&
+           memcmp(a.queue, b.queue, sizeof a.queue) == 0 && memcmp(a.counters, b.counters, sizeof a.counters) == 0 &&
+           memcmp(a.words, b.words, sizeof a.words) == 0 && memcmp(a.process, b.process, sizeof a.process) == 0;
 }
 
 /* every call on a state in which steps and returns of a process come to more than 255, each of the two large, and both */
@@ -167,17 +176,84 @@ static void check_counts(void) {
     }
 }
 
+/* names 0, 3 and 5 of eight closed, the last listed twice */
+static zevgorim_done close_three(void) {
+    static const uint8_t names[] = {5, 0, 3, 5};
+    return zevgorim_closed_setup(6, 4, 1, 2, names, sizeof names);
+}
+
+/* the gate and the counters start with the open names, five processes take those from the lowest on, and the sixth waits */
+static void check_closed(void) {
+    static const uint8_t counters[] = {0, 2, 1, 1}, open[] = {1, 2, 4, 6, 7}, last[] = {63};
+    zevgorim_done done = close_three();
+    is("answer of a setup with closed names", done.answer, 0);
+    is("its closed names", (long)done.state.setup.closed, 1 << 0 | 1 << 3 | 1 << 5);
+    is("its gate", done.state.gate, 5);
+    is("its counters", memcmp(done.state.counters, counters, sizeof counters), 0);
+    is("its free names", zevgorim_gate_report(done.state).free, 5);
+    zevgorim_state s = done.state;
+    for (uint8_t p = 0; p < 6; p++) {
+        const uint8_t events[] = {0, p, 1, p, 1, p, 1, p, 1, p};
+        s = run(s, events, sizeof events);
+        is("name past the closed ones", s.process[p].name, p < 5 ? open[p] : ZEVGORIM_NO_NAME);
+    }
+    is("word with a closed bit", s.words[0], 2);
+    is("process past the open names", s.queue[0], 5);
+    is("closed names after a list", s.setup.closed == done.state.setup.closed, 1);
+    is("last name closed", zevgorim_closed_setup(64, 16, 2, 2, last, 1).state.setup.closed == 1ull << 63, 1);
+}
+
+/* a closed name's bit, a closed name in a record, the gate or a counter above the open names, a closed name not below k, and none open */
+static void check_closed_ranges(void) {
+    zevgorim_state s[6];
+    for (size_t i = 0; i < 6; i++) s[i] = close_three().state;
+    s[0].words[0] = 1;
+    s[1].process[0].name = 3;
+    s[2].gate++;
+    s[3].counters[2]++;
+    s[4].setup.closed |= 1 << 8;
+    s[4].gate = 0;
+    s[5].setup.closed = 255;
+    s[5].gate = 0;
+    memset(s[5].counters, 0, sizeof s[5].counters);
+    for (size_t i = 0; i < 6; i++) is("answer to closed names broken", zevgorim_request(s[i], 0).answer, ZEVGORIM_BROKEN_STATE);
+}
+
+/* no list, a long one of one name, then 1 to 5, 19 and 20 in this order */
+static void check_closed_lists(void) {
+    static const uint8_t names[300] = {0, 1, 2, 3, 4, 5, 6, 7, 8, 255};
+    static const uint32_t bad[][4] = {{0, 3, 9, 9},  {6, 3, 9, 9},   {6, 4, 9, 9}, {6, 4, 1, 9},
+                                      {6, 16, 8, 8}, {64, 16, 2, 2}, {6, 4, 1, 2}, {6, 4, 1, 2}};
+    static const size_t sizes[] = {300, 300, 300, 300, 300, 300, 9, 8};
+    static const uint8_t numbers[] = {1, 2, 3, 4, 5, ZEVGORIM_CLOSED_NAME, ZEVGORIM_CLOSED_NAME, ZEVGORIM_NONE_OPEN};
+    static const zevgorim_state blank;
+    zevgorim_done none = zevgorim_closed_setup(6, 4, 1, 2, names, 0);
+    is("answer of an empty list of names", none.answer, 0);
+    is("its state", same_state(none.state, zevgorim_setup(6, 4, 1, 2).state), 1);
+    is("closed name of a long list", (long)zevgorim_closed_setup(6, 4, 1, 2, names + 10, 290).state.setup.closed, 1);
+    is("answer with one name open", zevgorim_closed_setup(6, 4, 1, 2, names, 7).answer, 0);
+    for (size_t i = 0; i < sizeof numbers; i++) {
+        zevgorim_done refused = zevgorim_closed_setup(bad[i][0], bad[i][1], bad[i][2], bad[i][3], names, sizes[i]);
+        is("answer to a bad setup with closed names", refused.answer, numbers[i]);
+        is("its state", same_state(refused.state, blank), 1);
+    }
+}
+
 /* a number above 255 gets the same number of refusal as any other outside its range, and nothing changes */
 static void check_large(uint32_t large) {
     static const zevgorim_state blank;
+    static const uint8_t name;
     for (int place = 0; place < 4; place++) {
         uint32_t n[4] = {2, 1, 1, 1};
         n[place] = large;
         zevgorim_done whole = zevgorim_setup(n[0], n[1], n[2], n[3]), part = zevgorim_partial_setup(n[0], n[1], n[2], n[3], large);
+        zevgorim_done closed = zevgorim_closed_setup(n[0], n[1], n[2], n[3], &name, 0);
         is("answer to a large number of a setup", whole.answer, ZEVGORIM_PROCESSES + place);
         is("answer with a count", part.answer, ZEVGORIM_PROCESSES + place);
+        is("answer with closed names", closed.answer, ZEVGORIM_PROCESSES + place);
         is("state of a refused setup", same_state(whole.state, blank), 1);
         is("state with a count", same_state(part.state, blank), 1);
+        is("state with closed names", same_state(closed.state, blank), 1);
     }
     is("answer to four large numbers", zevgorim_setup(large, large, large, large).answer, ZEVGORIM_PROCESSES);
     zevgorim_state s = zevgorim_request(zevgorim_setup(2, 1, 1, 1).state, 1).state;
@@ -205,7 +281,7 @@ static void check_edges(void) {
     memset(&garbage, 170, sizeof garbage);
     zevgorim_done back = zevgorim_event(garbage, 1, 0);
     is("answer to garbage", back.answer, ZEVGORIM_BROKEN_STATE);
-    is("garbage given back", memcmp(&back.state, &garbage, sizeof garbage), 0);
+    is("garbage given back", same_state(back.state, garbage), 1);
 }
 
 /* a day file of two events */
@@ -302,6 +378,9 @@ int main(void) {
     check_sums();
     check_kinds();
     check_counts();
+    check_closed();
+    check_closed_ranges();
+    check_closed_lists();
     check_large(256);
     check_large(257);
     check_large(UINT32_MAX);

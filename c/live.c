@@ -1,6 +1,6 @@
 /* A box at work: a frame comes, one event is carried out, the state is saved, the reply goes out. Started again, it goes on from the
  * state that it saved. Standard input stands for the radio: a line is a frame, `kind handset`. The reply is the line that pads prints
- * for the event: answer, stage, pad, figure (claim turns and return operations).
+ * for the event: answer, stage, pad, figure (claim turns and return operations). Pads named after the setup's four numbers are closed.
  *
  * The state is saved before the reply goes out, so that no handset has heard of a pad that the box can forget. A saved state that cannot
  * be trusted stops the box: a fresh one would hand out pads that handsets still hold. */
@@ -14,7 +14,7 @@
 #include "zevgorim.h"
 
 /* What is stored: the state, and its check sum, low byte first. */
-enum { STATE_SIZE = sizeof(zevgorim_state), STORED_SIZE = STATE_SIZE + 4, PATH_SIZE = 4096 };
+enum { STATE_SIZE = sizeof(zevgorim_state), STORED_SIZE = STATE_SIZE + 4, PATH_SIZE = 4096, MOST_CLOSED = 64 };
 
 /* CRC-32 as in zip files. */
 static uint32_t check_sum(const uint8_t *bytes, size_t size) {
@@ -29,6 +29,14 @@ static uint32_t check_sum(const uint8_t *bytes, size_t size) {
 static void put_sum(uint8_t *stored) {
     uint32_t sum = check_sum(stored, STATE_SIZE);
     for (int i = 0; i < 4; i++) stored[STATE_SIZE + i] = (uint8_t)(sum >> 8 * i);
+}
+
+/* The bytes of a state, with 0 for its padding, which no call defines. */
+static void put_state(uint8_t *stored, const zevgorim_state *state) {
+    size_t bits_end = offsetof(zevgorim_state, setup.bits) + 1, end = offsetof(zevgorim_state, process[64]);
+    memcpy(stored, state, STATE_SIZE);
+    memset(stored + bits_end, 0, offsetof(zevgorim_state, setup.closed) - bits_end);
+    memset(stored + end, 0, STATE_SIZE - end);
 }
 
 /* One box on one state: takes a lock beside its file, which lasts until the program ends. */
@@ -57,7 +65,7 @@ static int save(const char *path, const zevgorim_state *state) {
     char aside[PATH_SIZE];
     if ((size_t)snprintf(aside, sizeof aside, "%s.new", path) >= sizeof aside) return 0;
     uint8_t stored[STORED_SIZE];
-    memcpy(stored, state, STATE_SIZE);
+    put_state(stored, state);
     put_sum(stored);
     FILE *out = fopen(aside, "wb");
     if (out == NULL) return 0;
@@ -80,9 +88,10 @@ static const char *restore(const char *path, const zevgorim_state *fresh, zevgor
     memcpy(right, stored, STATE_SIZE);
     put_sum(right);
     if (memcmp(stored, right, STORED_SIZE) != 0) return "saved state damaged";
-    if (memcmp(stored, fresh, 4) != 0) return "saved state has another setup"; /* N, L, g and b come first */
     zevgorim_state saved;
     memcpy(&saved, stored, STATE_SIZE);
+    /* N, L, g and b come first */
+    if (memcmp(&saved, fresh, 4) != 0 || saved.setup.closed != fresh->setup.closed) return "saved state has another setup";
     if (zevgorim_gate_report(saved).answer != ZEVGORIM_OK) return "saved state broken";
     *state = saved;
     return NULL;
@@ -109,6 +118,17 @@ static int take_number(char **at, uint32_t *number) {
     if (*digits < '0' || *digits > '9') return 0;
     *number = value < UINT32_MAX ? (uint32_t)value : UINT32_MAX;
     *at = end;
+    return 1;
+}
+
+/* Reads the setup: four numbers, and the pads to be closed. One of more than 8 bits becomes the largest, which the setup refuses. */
+static int take_setup(char **arguments, int count, uint32_t *number, uint8_t *closed) {
+    uint32_t given;
+    for (int i = 0; i < count; i++) {
+        if (!take_number(&arguments[i], &given) || *arguments[i] != 0) return 0;
+        if (i < 4) number[i] = given;
+        else closed[i - 4] = given < 255 ? (uint8_t)given : 255;
+    }
     return 1;
 }
 
@@ -150,14 +170,13 @@ static int serve(const char *path, zevgorim_state state) {
 }
 
 int main(int argc, char **argv) {
-    uint32_t number[4] = {0};
-    int understood = argc == 6;
-    for (int i = 0; understood && i < 4; i++) understood = take_number(&argv[2 + i], &number[i]) && *argv[2 + i] == 0;
-    if (!understood) {
-        fprintf(stderr, "usage: live STATE-FILE HANDSETS LEAVES ROWS BITS\n");
+    uint32_t number[4];
+    uint8_t closed[MOST_CLOSED];
+    if (argc < 6 || argc > 6 + MOST_CLOSED || !take_setup(argv + 2, argc - 2, number, closed)) {
+        fprintf(stderr, "usage: live STATE-FILE HANDSETS LEAVES ROWS BITS [CLOSED-PAD ...]\n");
         return 2;
     }
-    zevgorim_done fresh = zevgorim_setup(number[0], number[1], number[2], number[3]);
+    zevgorim_done fresh = zevgorim_closed_setup(number[0], number[1], number[2], number[3], closed, (size_t)argc - 6);
     if (fresh.answer != ZEVGORIM_OK) {
         fprintf(stderr, "live: setup refused: %u\n", fresh.answer);
         return 1;
@@ -169,7 +188,7 @@ int main(int argc, char **argv) {
     zevgorim_state state = fresh.state;
     const char *why = restore(argv[1], &fresh.state, &state);
     if (why == none_saved) {
-        fprintf(stderr, "live: no saved state: fresh setup, every pad is open\n");
+        fprintf(stderr, "live: no saved state: fresh setup, every %s is open\n", argc > 6 ? "other pad" : "pad");
     } else if (why != NULL) {
         fprintf(stderr, "live: %s: remove %s once every pad is back\n", why, argv[1]);
         return 1;

@@ -17,6 +17,7 @@ static ucontext_t here, there;
 static uint8_t file[FILE_SIZE] = {'T', 'U', 'R', 'N', 2, 1, 23, 0, 0, 0, 4, 0, 0, 0, 2, 27, 0, 0, 0, 0, 0, 0, 0, 64, 16, 2, 2};
 static zevgorim_state fresh, last, blank;
 static uint8_t journal[4 * EVENTS], out[16 * EVENTS];
+static uint8_t names[65]; /* every name and one that is none, to be closed */
 static zevgorim_status roll[64];
 static volatile size_t seen; /* so that no call is left out */
 
@@ -61,6 +62,7 @@ static zevgorim_done done;
 /* accepted and refused */
 PROBE(setup, 8, done = noted_setup(64, 16, 1 + i, 2))
 PROBE(partial_setup, 40, done = noted_partial_setup(64, 16, 1 + i % 4, 2, i / 2))
+PROBE(closed_setup, 132, done = noted_closed_setup(64, 16, 2 + i % 2, 2, names, i / 2))
 PROBE(event, EVENTS + 1, done = noted_event(STATE, KIND, PROCESS))
 PROBE(request, EVENTS + 1, done = noted_request(STATE, PROCESS))
 PROBE(step, EVENTS + 1, done = noted_step(STATE, PROCESS))
@@ -104,9 +106,11 @@ static void measure(const char *name, void (*probe)(void), size_t limit) {
 
 int main(void) {
     make_file();
+    for (int i = 0; i < 65; i++) names[i] = (uint8_t)i;
     puts("bytes of stack, measured and stated:");
     MEASURE(setup, ZEVGORIM_STACK_SETUP);
     MEASURE(partial_setup, ZEVGORIM_STACK_SETUP);
+    MEASURE(closed_setup, ZEVGORIM_STACK_CLOSED_SETUP);
     MEASURE(event, ZEVGORIM_STACK_EVENT);
     MEASURE(request, ZEVGORIM_STACK_EVENT);
     MEASURE(step, ZEVGORIM_STACK_EVENT);

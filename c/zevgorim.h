@@ -7,21 +7,23 @@
  *
  * What you may rely on
  *
- * N processes, L leaves, g segments in a leaf, b bits in a segment; k = L*g*b names; h is the tree's height, 2^h = L. After every
- * list of events from an accepted setup, carried out one at a time or in lists, in whatever order, refused ones included:
+ * N processes, L leaves, g segments in a leaf, b bits in a segment; k = L*g*b names, of which a setup may close some: the others are
+ * open; h is the tree's height, 2^h = L. After every list of events from an accepted setup, carried out one at a time or in lists, in
+ * whatever order, refused ones included:
  *
- *   - At most k processes are admitted [let in]: in stages 3 to 6, or in stage 2 and no longer in the queue.
- *   - The names [pads] of working processes [holders] are below k and all unlike.
+ *   - At most as many processes are admitted [let in] as names are open: in stages 3 to 6, or in stage 2 and no longer in the queue.
+ *   - The names [pads] of working processes [holders] are open, so below k, and all unlike.
  *   - No process is exhausted [astray].
- *   - If at no moment, at the start or directly after an event, more than m processes were admitted, every name held is below m.
+ *   - If at no moment, at the start or directly after an event, more than m processes were admitted, every name held is one of the m
+ *     lowest open names: fewer than m open names lie below it. With none closed, every name held is below m.
  *   - The number steps [spent, the claim figure] of a process counts its steps [turns] in getname [claiming] since its last accepted
  *     request [ask]. Of a working process it is from h + 1 to h + g.
  *   - The number returns counts its return operations since then: the bit cleared and each counter given back, but not a level left by
  *     the right and not the gate. A process in its remainder section [idle] after a full round has steps + returns from h + 2 to
  *     2h + g + 1. Journal and status records show this sum.
  *   - A process in getname holds a name directly after one of the next h + g steps given to it at the latest, whatever comes between.
- *   - The number steps of no process, working or not, is above h + the smaller of g and 1 + (N - 1) / b, rounded down. A list of events
- *     with which a working process has exactly so many is what zevgorim_dearest_list writes.
+ *   - Of setups that close no name: the number steps of no process, working or not, is above h + the smaller of g and 1 + (N - 1) / b,
+ *     rounded down. A list of events with which a working process has exactly so many is what zevgorim_dearest_list writes.
  *
  * This, what each call below gives and writes, and that every call ends, is proved of the Rattle source, for every argument that keeps
  * to `Lent memory` below. The radio lies outside: a frame that is heard twice is two events, and which handset sent it no call asks.
@@ -29,8 +31,8 @@
  *
  * What you must do for it
  *
- *   - Start from a state that zevgorim_setup or zevgorim_read_setup gave with answer 0, or zevgorim_partial_setup with a count of L - 1 or
- *     more.
+ *   - Start from a state that zevgorim_setup, zevgorim_closed_setup or zevgorim_read_setup gave with answer 0, or zevgorim_partial_setup
+ *     with a count of L - 1 or more.
  *   - Hand the state that a call gave, refused or not, to the next call that changes it, and drop the older one. One writer.
  *   - Store a state with a check sum. A state that was edited or damaged carries no claim, and often no call can tell: answer 15 looks
  *     at the ranges of the numbers, not at whether a list of events leads to them. A later archive may lay a state out anew, so store
@@ -86,7 +88,9 @@ enum {
     ZEVGORIM_BROKEN_STATE = 15, /* [broken state] a number of the state outside its range, or a step that would take one outside */
     ZEVGORIM_TOO_LONG = 16,     /* the day file to be written would pass 32,768 bytes */
     ZEVGORIM_NO_ROOM = 17,      /* a lent buffer is shorter than the day file to be written */
-    ZEVGORIM_SMALL_BUFFER = 18  /* a buffer lent for the dearest list is under 4,096 bytes */
+    ZEVGORIM_SMALL_BUFFER = 18, /* a buffer lent for the dearest list is under 4,096 bytes */
+    ZEVGORIM_CLOSED_NAME = 19,  /* a listed name is not below k */
+    ZEVGORIM_NONE_OPEN = 20     /* every name would be closed */
 };
 
 /* Kinds of event. */
@@ -112,12 +116,13 @@ enum {
 
 /* Bytes of stack that a call takes below its return address, rounded up. They are measured, not proved: c/stack.c looks how deep a
  * painted stack was written, with the archive as the toolchain compiles it (-O3) and glibc's memcpy and memset, and c/run fails where a
- * call takes more. What the caller's own frame has for the state handed over (534 bytes) and the result (535 bytes) comes on top. */
+ * call takes more. What the caller's own frame has for the state handed over (552 bytes) and the result (560 bytes) comes on top. */
 enum {
-    ZEVGORIM_STACK_SETUP = 1024,  /* setup, partial_setup */
-    ZEVGORIM_STACK_EVENT = 1280,  /* event, request, step, release, run */
+    ZEVGORIM_STACK_SETUP = 1152, /* setup, partial_setup */
+    ZEVGORIM_STACK_CLOSED_SETUP = 1792,
+    ZEVGORIM_STACK_EVENT = 2432,  /* event, request, step, release, run */
     ZEVGORIM_STACK_REPORT = 1280, /* gate_report, fill_status */
-    ZEVGORIM_STACK_READ_SETUP = 1664,
+    ZEVGORIM_STACK_READ_SETUP = 2432,
     ZEVGORIM_STACK_SMALL = 128, /* file_answer, read_events, write_file, journal_text, dearest_list */
     ZEVGORIM_STACK_FILE_TEXT = 69632
 };
@@ -127,31 +132,34 @@ typedef struct {
     uint8_t stage;   /* 0 to 6 */
     uint8_t node;    /* where it is in the tree, 1 to 2L - 1 */
     uint8_t segment; /* [row] in its leaf, 0 to g - 1 */
-    uint8_t name;    /* [pad] 0 to k - 1, or ZEVGORIM_NO_NAME */
+    uint8_t name;    /* [pad] an open one, 0 to k - 1, or ZEVGORIM_NO_NAME */
     uint8_t steps;   /* [spent] its steps in getname since its last request */
     uint8_t returns; /* its return operations since then; steps + returns is at most 255 */
 } zevgorim_process;
 
-/* What a setup is given. */
+/* What a setup is given, in 16 bytes: 4 bytes of padding come before closed. */
 typedef struct {
     uint8_t processes; /* [handsets] N */
     uint8_t leaves;    /* L */
     uint8_t segments;  /* [rows] in a leaf, g */
     uint8_t bits;      /* in a segment, b */
+    uint64_t closed;   /* bit p is 1 when name p is closed: not all k names are, and bits from k on are 0 */
 } zevgorim_setup_numbers;
 
-/* The whole state: 534 bytes without padding, so that it can be copied, compared and stored as bytes. */
+/* The whole state, in 552 bytes. Bytes 4 to 7, before setup.closed, and 546 to 551, after the last process, are padding: what they hold is
+ * not defined. A state can be copied and stored as bytes, with a check sum over the bytes that are stored; but two states are compared
+ * field by field, and not with memcmp. c/live.c stores padding as 0. */
 typedef struct {
     zevgorim_setup_numbers setup;
-    int8_t gate;                  /* gate word A, -64 to k */
+    int8_t gate;                  /* gate word A, -64 to the number of open names */
     uint8_t queued;               /* how many wait at the gate */
     uint8_t queue[64];            /* their numbers, the head first; 0 past the end */
-    uint8_t counters[16];         /* by node, 1 to L - 1; place 0 is unused */
-    uint8_t words[64];            /* [row words] b bits for each segment, L*g of them */
+    uint8_t counters[16];         /* by node, 1 to L - 1: 0 to the number of open names under its left child; place 0 is unused */
+    uint8_t words[64];            /* [row words] b bits for each segment, L*g of them; the bit of a closed name is 0 */
     zevgorim_process process[64]; /* N of them */
 } zevgorim_state;
 
-/* An answer, and the state after the call. */
+/* An answer, and the state after the call, in 560 bytes: 7 bytes of padding come before the state. */
 typedef struct {
     uint8_t answer;
     zevgorim_state state;
@@ -160,7 +168,7 @@ typedef struct {
 /* The gate report. */
 typedef struct {
     uint8_t answer;
-    uint8_t free;   /* names still free [pads still open] at the gate */
+    uint8_t free;   /* open names still free [pads still open] at the gate */
     uint8_t queued; /* processes queued there */
 } zevgorim_report;
 
@@ -193,7 +201,7 @@ typedef struct {
 
 /* Setup */
 
-/* The fresh state of N processes, L leaves, g segments in a leaf and b bits in a segment.
+/* The fresh state of N processes, L leaves, g segments in a leaf and b bits in a segment, with every name open.
  * Refused with 1, 2, 3, 4, 5 in this order: the state is blank, every number 0, and no call accepts it. */
 zevgorim_done zevgorim_setup(uint32_t n, uint32_t l, uint32_t g, uint32_t b);
 
@@ -202,6 +210,12 @@ zevgorim_done zevgorim_setup(uint32_t n, uint32_t l, uint32_t g, uint32_t b);
  * takes it, but nothing of `What you may rely on` is promised from there: processes may be exhausted.
  * Refused as zevgorim_setup, whatever the count: the state is blank. */
 zevgorim_done zevgorim_partial_setup(uint32_t n, uint32_t l, uint32_t g, uint32_t b, uint64_t count);
+
+/* The fresh state with the names [pads] of a lent list closed: nobody will hold one. One byte for each name, in any order, any number of
+ * them; a name listed twice is closed once. The gate and the counters start with the open names alone. With an empty list it gives what
+ * zevgorim_setup gives, number for number.
+ * Refused with 1 to 5, then 19 when a listed name is not below k, then 20 when no name stays open: the state is blank. */
+zevgorim_done zevgorim_closed_setup(uint32_t n, uint32_t l, uint32_t g, uint32_t b, const uint8_t *closed, size_t closed_len);
 
 
 /* Events: the state after one, or after a list. A refused call gives the state it was lent. */
@@ -224,7 +238,7 @@ zevgorim_done zevgorim_run(zevgorim_state state, const uint8_t *events, size_t e
 
 /* Reports: they change no state. */
 
-/* Names still free at the gate, and processes queued there. Refused with 15: both are 0. */
+/* Open names still free at the gate, and processes queued there. Refused with 15: both are 0. */
 zevgorim_report zevgorim_gate_report(zevgorim_state state);
 
 /* A status record for each process in rising order [roll]; records from N on are untouched. Gives the answer.
@@ -232,7 +246,7 @@ zevgorim_report zevgorim_gate_report(zevgorim_state state);
 uint8_t zevgorim_fill_status(zevgorim_state state, zevgorim_status *records, size_t records_len);
 
 
-/* The dearest claim of a setup, for planning */
+/* The dearest claim of a setup that closes no name, for planning */
 
 /* Writes a list of events, two bytes each, in which one process's claim costs the most steps possible, at the start of a lent buffer, and
  * says that figure and how many bytes it wrote. No list from the setup's fresh state makes a claim cost more; zevgorim_run on that state
@@ -242,7 +256,7 @@ uint8_t zevgorim_fill_status(zevgorim_state state, zevgorim_status *records, siz
 zevgorim_dearest zevgorim_dearest_list(uint32_t n, uint32_t l, uint32_t g, uint32_t b, uint8_t *out, size_t out_len);
 
 
-/* The day file: a setup and its events, 27 to 32,767 bytes. */
+/* The day file: a setup and its events, 27 to 32,767 bytes. Closed names are not in it: its setup closes none. */
 
 /* 0, or the number with which zevgorim_read_setup refuses the file. */
 uint8_t zevgorim_file_answer(const uint8_t *file, size_t file_len);
