@@ -1,5 +1,5 @@
--- What a claim can cost where none is closed and at most M are admitted at any moment: h and a step for each of the segments tried, of which there are at
--- most g and at most 1 + (M - 1) div b, since fewer than M names lie below the last of them. Assumes nothing.
+-- What a claim can cost where none is closed and at most M are admitted at any moment: h and a step for each of the segments tried, of
+-- which there are at most g and at most 1 + (M - 1) div b, since fewer than M names lie below the last of them. Assumes nothing.
 use Prim.Native.Nat.{ℕ, _+_, _*_, _-_, _/_, _≤_, _<_, min}
 use native.Mathlib.Decide.{decLt}
 use native.Mathlib.Nat.{div-lt-iff-lt-mul}

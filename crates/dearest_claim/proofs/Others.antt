@@ -1,5 +1,6 @@
--- Processes that claim one after the other, where none is closed. While process n claims, those before it work, each with its own number for a name, and those
--- after it are in their remainder section. So at most n + 1 are admitted, the gate is open to n, and the name that it wins is n.
+-- Processes that claim one after the other, where none is closed. While process n claims, those before it work, each with its own number
+-- for a name, and those after it are in their remainder section. So at most n + 1 are admitted, the gate is open to n, and the name that
+-- it wins is n.
 --     Others         where the other processes are
 --     one, event-others    process n, and an event of it
 --     none-closed    no name is closed in its state

@@ -1,5 +1,5 @@
--- The dearest claim of every accepted setup that closes none: no list makes a claim cost more than the figure, by the invariant with M the number of
--- processes; and the list's run ends with the dear process, which holds a name for just that. Assumes nothing.
+-- The dearest claim of every accepted setup that closes none: no list makes a claim cost more than the figure, by the invariant with M
+-- the number of processes; and the list's run ends with the dear process, which holds a name for just that. Assumes nothing.
 use mathlib.Core.List.{List}
 use Prim.Native.Nat.{ℕ, suc, _-_, _≤_, _<_}
 use native.Mathlib.Nat.{mul-div-cancel}

@@ -71,7 +71,7 @@ pub fn open_names(setup: Setup) -> u8
 }
 
 // 0, or the number of the refusal of the four numbers.
-pub fn number_answer(setup: Setup) -> u8
+fn number_answer(setup: Setup) -> u8
     ensures { λ r. ⌜ r ≡ numberAnswer setup ⌝ }
 {
     if !is_within(1, 64, setup.processes) {

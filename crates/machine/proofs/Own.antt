@@ -90,7 +90,8 @@ module _ {s : State} {p : ℕ} (v : Valid s) (known : p < s .setup .processes) w
           (k, own-stored (claimed k h))
       go false =
           let r : ℕ = segmentOf (s .setup) h in
-          let k : ClaimStep = outcome (s .setup) r (h .segment) (setFirstZero (s .setup .bits) (closedWord (s .setup) r) (wordAt s r) .answer) in
+          let first : ℕ = setFirstZero (s .setup .bits) (closedWord (s .setup) r) (wordAt s r) .answer in
+          let k : ClaimStep = outcome (s .setup) r (h .segment) first in
           (k, own-stored (claimed k h))
 
   climb-became : h .stage ≡ putname → h .name ≡ none → 1 < h .node → To step (climb s p)

@@ -1,4 +1,5 @@
--- Document 01, section State, and document 02, e): the range of each number. Only places that N, L and g use are looked at, and the whole queue.
+-- Document 01, section State, and document 02, e): the range of each number. Only places that N, L and g use are looked at, and the
+-- whole queue.
 use mathlib.Core.Path.{_≡_}
 use mathlib.Core.Bool.{Bool, true, cond, _&&_, _||_}
 use mathlib.Core.List.{List, [], _∷_}
@@ -58,8 +59,8 @@ processTests c h =
 abbrev pub processTest : Setup → Process → Bool
 processTest c h = allOf (processTests c h)
 
--- Every number in its range: the setup's, with an open name; the gate word and its queue of 0 to 64; nodes below L; segment words 0 to L·g - 1;
--- processes below N.
+-- Every number in its range: the setup's, with an open name; the gate word and its queue of 0 to 64; nodes below L; segment words 0 to
+-- L·g - 1; processes below N.
 abbrev pub entryTests : Setup → ℤ → ℕ → List ℕ → List Bool
 entryTests c gate queued queue =
     eqb (setupAnswer c) accepted

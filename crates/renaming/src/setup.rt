@@ -59,9 +59,9 @@ pub fn closed_setup(n: u8, l: u8, g: u8, b: u8, closed: &[u8]) -> Done
     ensures { λ r. ⌜ r ≡ State.setup (given n l g b (now (closed .entry))) ⌝ }
 {
     let numbers = limits::setup_of(n, l, g, b, 0);
-    let a = limits::setup_answer(numbers);
-    if a != answer::ACCEPTED {
-        return refused(a);
+    let first = limits::setup_answer(numbers);
+    if first != answer::ACCEPTED {
+        return refused(first);
     }
     let k = limits::names_of(numbers);
     if !closing::are_below(closed, k) {

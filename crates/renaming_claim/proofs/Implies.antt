@@ -1,6 +1,7 @@
 -- The invariant implies what the claim says of a state. Of names: no more are admitted than names are open, a working process's name is
--- open, and so below k, with fewer than M open ones below it, no other process has it, and none is exhausted. Of steps: a working process took one for each level and the one that won at
--- least, and one for each level and each segment at most; a process in getname has taken fewer. Assumes nothing.
+-- open, and so below k, with fewer than M open ones below it, no other process has it, and none is exhausted. Of steps: a working process
+-- took one for each level and the one that won at least, and one for each level and each segment at most; a process in getname has taken
+-- fewer. Assumes nothing.
 use Prim.Native.Nat.{ℕ, _+_, _≤_, _<_}
 use Rattle.machine.proofs.Rules.{_≡_, _∙_, sym, _≢_, arith}
 use Rattle.machine.specs.Admitted.{admitted}

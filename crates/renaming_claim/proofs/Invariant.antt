@@ -128,8 +128,8 @@ Home h = HomeAt (h .node) (h .segment) (h .name)
 abbrev pub Entering : Process → Type 0
 Entering h = EnteringAt (h .node) (h .segment) (h .name) (h .steps) (h .returns)
 
--- GATE. The gate word is the number of open names less the number of processes in stage 2 or later, and the queue has one place for each that it fell below
--- 0. Nobody stands in the queue twice, and whoever does is in stage 2.
+-- GATE. The gate word is the number of open names less the number of processes in stage 2 or later, and the queue has one place for each
+-- that it fell below 0. Nobody stands in the queue twice, and whoever does is in stage 2.
 
 -- in stage 2 or later: past the gate, or in its queue
 unfoldable pub beyond : Process → Bool

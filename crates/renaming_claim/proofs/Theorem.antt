@@ -1,6 +1,6 @@
--- Demand 3 holds: for every setup that is accepted, closed names among it or not, and every list of events, the claim. The invariant holds along the list with M the
--- number of processes, which gives all but the low names, and with M any bound on the admitted, which gives those.
--- Assumes nothing.
+-- Demand 3 holds: for every setup that is accepted, with closed names or none, and every list of events, the claim. The invariant holds
+-- along the list with M the number of processes, which gives all but the low names, and with M any bound on the admitted, which gives
+-- those. Assumes nothing.
 use mathlib.Core.List.{List}
 use Prim.Native.Nat.{ℕ, _+_, _≤_, _<_}
 use lib.ListN.{length, take}

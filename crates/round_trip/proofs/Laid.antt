@@ -1,5 +1,5 @@
--- The file of a setup that closes none and its events has the layout, and is read as they are: its checks compute on the head's bytes, and the four
--- bytes of the events' length make it again.
+-- The file of a setup that closes none and its events has the layout, and is read as they are: its checks compute on the head's bytes,
+-- and the four bytes of the events' length make it again.
 --     has-layout        the file is answered 0 by the layout
 --     setup-back        its setup is read as given
 --     events-back       and so are its events

@@ -28,7 +28,8 @@ pub record Ordered (c : Setup) (count : ℕ) (d₀ d : Done) : Type 0 where
   -- From L - 1 on, its result is the setup's number for number.
   pub whole : c .leaves ≤ count + 1 → d ≡ d₀
   -- Counters from node L - 1 up to node 1: a count more fills the counter of node L - 1 - count, and changes no other number.
-  pub next : d₀ .answer ≡ 0 → count + 1 < c .leaves → (d₁ : Done) → PartlySetUp (c .processes) (c .leaves) (c .segments) (c .bits) (count + 1) d₁
+  pub next : d₀ .answer ≡ 0 → count + 1 < c .leaves → (d₁ : Done)
+      → PartlySetUp (c .processes) (c .leaves) (c .segments) (c .bits) (count + 1) d₁
       → d₁ .state ≡ withCounter (c .leaves - 1 - count) (counterAt (d₀ .state) (c .leaves - 1 - count)) (d .state)
   -- From a smaller count's state no list statement starts: it is not the setup's,
   pub smaller : d₀ .answer ≡ 0 → count + 1 < c .leaves → d .state ≢ d₀ .state

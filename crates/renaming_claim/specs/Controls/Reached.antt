@@ -1,5 +1,6 @@
 -- Runs that reach what the claim allows: a queue that is served, a name one below the admitted, a claim of h + g steps, full rounds
--- of h + 2 and of 2h + g + 1, and every open name held with others closed. So no field of the claim holds for want of a case. `reached` in proofs/Controls/Reached.antt computes each.
+-- of h + 2 and of 2h + g + 1, and every open name held with others closed. So no field of the claim holds for want of a case. `reached`
+-- in proofs/Controls/Reached.antt computes each.
 use mathlib.Core.Path.{_≡_}
 use mathlib.Core.Bool.{true, false}
 use mathlib.Core.List.{List, [], _∷_, _++_, map}

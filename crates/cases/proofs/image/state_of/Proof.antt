@@ -18,7 +18,14 @@ returns c =
     let queue = counters .before .before .before in
     let same : toZ w8 (ofZ w8 (gate .result)) ≡ gate .result = toZ-ofZ (search needs) in
     rw same
-    (simp (gate .ensures, closed .load-number .ensures, processes .load-processes .ensures, words .load3 .ensures, counters .load2 .ensures, queue .load .ensures))
+    (simp (
+      gate .ensures,
+      closed .load-number .ensures,
+      processes .load-processes .ensures,
+      words .load3 .ensures,
+      counters .load2 .ensures,
+      queue .load .ensures,
+    ))
 
 pub state-of-spec : {M : Type 1} → statement M
 state-of-spec =

@@ -10,4 +10,5 @@ counter-in-range-spec =
     -- `v == 0`
     (λ c. rw (c .if1 .taken))
     -- otherwise
-    (λ c κs. let start = c .before in (start .pre .0, (omega (arith, c .if1 .left), start .pre .1))) (λ c. simp (ne-eqb _ _ (c .before .if1 .left), c .fresh-counter .ensures)))
+    (λ c κs. let start = c .before in (start .pre .0, (omega (arith, c .if1 .left), start .pre .1)))
+    (λ c. simp (ne-eqb _ _ (c .before .if1 .left), c .fresh-counter .ensures)))

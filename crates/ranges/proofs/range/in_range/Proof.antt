@@ -37,6 +37,14 @@ Inv-loop s end i₀ i = (end ≡ s .setup .processes) × Going s i
 abbrev μ-loop : tie.MeasureT-loop
 μ-loop s end i₀ i = end - i
 
+-- the counters passed, and before them the first call
+abbrev entered : tie.Else2 Inv-loop μ-loop → tie.Else1 Inv-loop μ-loop
+entered c = c .before .before .before .before .before
+
+-- the segment words passed, and before them the counters
+abbrev counted : tie.Else3 Inv-loop μ-loop → tie.Else2 Inv-loop μ-loop
+counted c = c .before .before .before .before .before
+
 -- past the first call: its tests passed, and so the setup is accepted
 abbrev start : tie.Else1 Inv-loop μ-loop → tie.Start Inv-loop μ-loop
 start c = c .before .before .before .before .before .before
@@ -74,28 +82,26 @@ counters-fail c =
 words-fail : tie.Need-returns-3 Inv-loop μ-loop
 unfolding inRange
 words-fail c =
-    let s = start (c .before .before .before .before .before .before .before .before .before .before) .args .t1 in
+    let s = start (entered (c .before .before .before .before .before)) .args .t1 in
     sym (one-fails (rangeTests s) 2 (sym (c .before .words-in-range .ensures) ∙ not-true _ (c .if3 .taken)))
 
 closed-fail : tie.Need-returns-4 Inv-loop μ-loop
 unfolding inRange
 closed-fail c =
-    let counted = c .before .before .before .before .before .before .before .before .before .before in
-    let s = start (counted .before .before .before .before .before) .args .t1 in
+    let s = start (entered (counted (c .before .before .before .before .before))) .args .t1 in
     sym (one-fails (rangeTests s) 3 (sym (c .before .words-open .ensures) ∙ not-true _ (c .if4 .taken)))
 
 loop-holds : tie.Need-loop-holds Inv-loop μ-loop
 unfolding inRange allBelow
 loop-holds c =
     let sized = c .before .before .before .before .before in
-    let counted = sized .before .before .before .before .before in
-    let entered = counted .before .before .before .before .before in
-    let s = start entered .args .t1 in
-    let counters = sym (counted .before .counters-in-range .ensures) ∙ not-false _ (counted .if2 .left) in
+    let first = entered (counted sized) in
+    let s = start first .args .t1 in
+    let counters = sym (counted sized .before .counters-in-range .ensures) ∙ not-false _ (counted sized .if2 .left) in
     let words = sym (sized .before .words-in-range .ensures) ∙ not-false _ (sized .if3 .left) in
     let closed = sym (c .before .words-open .ensures) ∙ not-false _ (c .if4 .left) in
-    let rest = passes {t = entry s} (entry-passes entered) (passes counters (passes words (passes closed (decides refl)))) in
-    (refl, record { accepted = accepted entered; rest = rest; high = search needs; passed = refl })
+    let rest = passes {t = entry s} (entry-passes first) (passes counters (passes words (passes closed (decides refl)))) in
+    (refl, record { accepted = accepted first; rest = rest; high = search needs; passed = refl })
 
 -- the processes of an accepted setup
 few : {s : State} {i : ℕ} → Going s i → s .setup .processes ≤ 64
@@ -136,8 +142,8 @@ in-range-spec =
     (λ c κs. search needs) entry-fails
     -- the counters; the segment words, and their closed bits
     (λ c κs. accepted (c .before .before .before)) counters-fail
-    (λ c κs. accepted (c .before .before .before .before .before .before .before .before)) words-fail
-    (λ c κs. accepted (c .before .before .before .before .before .before .before .before .before .before .before .before .before)) closed-fail
+    (λ c κs. accepted (entered (c .before .before .before))) words-fail
+    (λ c κs. accepted (entered (counted (c .before .before .before)))) closed-fail
     -- up to the loop
     (λ c. search needs) loop-holds
     -- a turn whose process fails

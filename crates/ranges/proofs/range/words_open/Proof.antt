@@ -44,7 +44,8 @@ returns-2 c =
     let a = start here .args in
     let r = turn here .loop .r in
     let fails = sym (shut-test (a .setup) (a .words .now) r) ∙ rw (here .before .closed-word .ensures) at (ne-eqb _ 0 (c .if2 .taken)) in
-    sym (all-fails (a .setup .leaves * a .setup .segments) (closedTest (a .setup) (a .words .now)) r (here .before .before .loop-test .taken) fails)
+    let below = here .before .before .loop-test .taken in
+    sym (all-fails (a .setup .leaves * a .setup .segments) (closedTest (a .setup) (a .words .now)) r below fails)
 
 loop-again : tie.Need-loop-again Inv-loop μ-loop
 loop-again c =

@@ -1,5 +1,5 @@
--- `closed_setup` meets its contract: the four numbers refuse as their own setup does, then a name of the list that is not below k; past both
--- the list is the number that it closes, and the rest is the setup's. Assumes nothing.
+-- `closed_setup` meets its contract: the four numbers refuse as their own setup does, then a name of the list that is not below k; past
+-- both the list is the number that it closes, and the rest is the setup's. Assumes nothing.
 use mathlib.Core.List.{List}
 use Prim.Native.Nat.{ℕ}
 use Rattle.machine.proofs.Rules.{_≡_, _∙_, sym, ap, true, arith, needs, not-true, not-false}
