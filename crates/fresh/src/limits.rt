@@ -100,9 +100,6 @@ pub fn setup_answer(setup: Setup) -> u8
     if a != answer::ACCEPTED {
         return a;
     }
-    if setup.closed == 0 {
-        return answer::ACCEPTED;
-    }
     let k = product(setup) as u8;
     if !closed::is_below(setup.closed, k) {
         return answer::CLOSED_NAME;

@@ -1,11 +1,10 @@
--- `setup_answer` meets its contract: the four numbers' answer, then the two checks of the closed names, which pass where none is closed.
+-- `setup_answer` meets its contract: the four numbers' answer, then the two checks of the closed names.
 -- Assumes nothing.
 use Prim.Native.Nat.{_^_, _≤_, _<_}
 use lib.Dec.{ltb}
 use Rattle.machine.proofs.Rules.{_≡_, _∙_, sym, true, arith, needs, not-true, not-false, ltb-true, lt-ltb, le-ltb}
 use Rattle.machine.specs.Setup.{names, openNames, numberAnswer}
 use Rattle.machine.proofs.Facts.Leaves.{leaves-high}
-use Rattle.machine.proofs.Laws.Plain.{numbers-decide}
 use Rattle.machine.proofs.Laws.Setup.{numbers-refused, numbers-passed}
 use Rattle.machine.proofs.Ranges.{Limits, numbers-of}
 use Rattle.fresh.proofs.Counted.{names-open}
@@ -21,61 +20,55 @@ module _ (c : tie.Else1) where
   limits = numbers-of (c .before .before .args .setup) passed
 
 -- past the closed names below k
-inside : (c : tie.Else3) → let s = c .before .before .before .before .before .before .before .args .setup in
+inside : (c : tie.Else2) → let s = c .before .before .before .before .before .args .setup in
     ltb (s .closed) (2 ^ names s) ≡ true
-inside c = rw (c .before .before .product .ensures) at (sym (c .before .is-below .ensures) ∙ not-false _ (c .if3 .left))
+inside c = rw (c .before .before .product .ensures) at (sym (c .before .is-below .ensures) ∙ not-false _ (c .if2 .left))
 
 refused : tie.Need-returns
 refused c =
     let told = c .before .number-answer .ensures in
     told ∙ sym (numbers-refused (c .before .before .args .setup) (λ e. c .if1 .taken (told ∙ e)))
 
-none-closed : tie.Need-returns-2
-none-closed c =
-    let past = c .before .before in
-    let s = past .before .before .args .setup in
-    sym (numbers-decide s (c .if2 .taken) ∙ passed past)
-
 product-requires : tie.Need-product-requires
-product-requires c κs = let k = limits (c .before .before) in (leaves-high _ (k .leaves), (k .g8, k .b8))
+product-requires c κs = let k = limits c in (leaves-high _ (k .leaves), (k .g8, k .b8))
 
 names-small : (c : tie.After-product) → c .product .result ≤ 64
-names-small c = rw (c .product .ensures) (limits (c .before .before .before) .k64)
+names-small c = rw (c .product .ensures) (limits (c .before) .k64)
 
-outside : tie.Need-returns-3
+outside : tie.Need-returns-2
 outside c =
     let made = c .before .before in
-    let past = made .before .before .before in
+    let past = made .before in
     let s = past .before .before .args .setup in
-    let fails = rw (made .product .ensures) at (sym (c .before .is-below .ensures) ∙ not-true _ (c .if3 .taken)) in
+    let fails = rw (made .product .ensures) at (sym (c .before .is-below .ensures) ∙ not-true _ (c .if2 .taken)) in
     sym (numbers-passed s (passed past) ∙ rw fails)
 
 -- how many are open
-opened : (c : tie.After-open-of) → let s = c .before .before .before .before .before .before .before .before .args .setup in
+opened : (c : tie.After-open-of) → let s = c .before .before .before .before .before .before .args .setup in
     c .open-of .result ≡ openNames s
 opened c =
     let past = c .before in
     let made = past .before .before in
-    let s = made .before .before .before .before .before .args .setup in
+    let s = made .before .before .before .args .setup in
     rw (made .product .ensures) at (c .open-of .ensures) ∙ sym (names-open s (ltb-true _ _ (inside past)))
 
-none-open : tie.Need-returns-4
+none-open : tie.Need-returns-3
 none-open c =
     let past = c .before .before in
-    let numbers = past .before .before .before .before .before in
+    let numbers = past .before .before .before in
     let s = numbers .before .before .args .setup in
     sym
     (numbers-passed s (passed numbers)
-    ∙ rw (inside past, le-ltb 0 (openNames s) (omega (arith, opened (c .before), c .if4 .taken))))
+    ∙ rw (inside past, le-ltb 0 (openNames s) (omega (arith, opened (c .before), c .if3 .taken))))
 
-accepted : tie.Need-returns-5
+accepted : tie.Need-returns-4
 accepted c =
     let past = c .before .before in
-    let numbers = past .before .before .before .before .before in
+    let numbers = past .before .before .before in
     let s = numbers .before .before .args .setup in
     sym
     (numbers-passed s (passed numbers)
-    ∙ rw (inside past, lt-ltb 0 (openNames s) (omega (arith, opened (c .before), c .if4 .left))))
+    ∙ rw (inside past, lt-ltb 0 (openNames s) (omega (arith, opened (c .before), c .if3 .left))))
 
 pub setup-answer-spec : {M : Type 1} → statement M
 setup-answer-spec =
@@ -83,8 +76,6 @@ setup-answer-spec =
     (tie.spec
     -- the four numbers
     (λ c κs. search needs) refused
-    -- `setup.closed == 0`
-    none-closed
     -- a closed name from k on
     product-requires (λ c. omega (arith, names-small c)) (λ c κs. names-small c) outside
     -- no open name, or one
