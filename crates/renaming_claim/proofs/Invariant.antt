@@ -11,7 +11,7 @@ use Prim.Native.Nat.{ℕ, suc, _+_, _*_, _-_, _≤_, _<_}
 use lib.Dec.{eqb, leb}
 use lib.IntN.{ℤ, pos, negsuc}
 use lib.ListN.{getD}
-use Rattle.machine.proofs.Rules.{_≡_, Bool, true, _≢_}
+use Rattle.machine.proofs.Rules.{_≡_, Bool, _≢_}
 use Rattle.machine.specs.Below.{sumBelow, indicator as ind}
 use Rattle.machine.specs.Closed.{openIn, rank}
 use Rattle.machine.specs.Operations.{bit}

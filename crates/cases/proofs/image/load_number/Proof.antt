@@ -1,6 +1,6 @@
 -- `load_number` meets its contract. The loop keeps the number of the bytes passed, from the highest down; the bytes left go down.
 -- Assumes nothing.
-use mathlib.Core.List.{List, []}
+use mathlib.Core.List.{List}
 use Prim.Native.Nat.{ℕ, suc, _+_, _*_, _-_, _^_, _≤_, _<_}
 use lib.Pow.{pow-add, pow-mono}
 use Rattle.machine.proofs.Rules.{_≡_, _∙_, ap, refl, arith, needs}

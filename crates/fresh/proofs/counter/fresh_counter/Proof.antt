@@ -1,9 +1,9 @@
--- `fresh_counter` meets its contract: at each node's level the names under its left child are a share of all, less those
--- that are closed. Assumes nothing.
+-- `fresh_counter` meets its contract: at a node's level the names under its left child are a share of all, less those that are closed.
+-- Assumes nothing.
 use Prim.Native.Nat.{ℕ, _+_, _*_, _-_, _/_, _^_, _≤_, _<_}
-use Rattle.machine.proofs.Rules.{_∙_, sym, ap, arith, needs}
+use Rattle.machine.proofs.Rules.{sym, arith}
 use Rattle.machine.specs.Setup.{names}
-use Rattle.machine.specs.State.{depth, freshCounter}
+use Rattle.machine.specs.State.{depth}
 use Rattle.machine.proofs.Laws.Plain.{counter-share}
 use Rattle.machine.proofs.Ranges.{Limits, limits-of}
 use Rattle.fresh.proofs.Accepted.{leaves-16}

@@ -1,5 +1,5 @@
 -- `open_names` meets its contract: all names where none is closed, otherwise those that the closed ones leave. Assumes nothing.
-use Rattle.machine.proofs.Rules.{_∙_, sym, needs}
+use Rattle.machine.proofs.Rules.{_∙_, sym}
 use Rattle.machine.specs.Setup.{names}
 use Rattle.machine.proofs.Laws.Plain.{open-all}
 use Rattle.machine.proofs.Ranges.{limits-of, closed-of}

@@ -1,9 +1,11 @@
 -- `setup_answer` meets its contract: the four numbers' answer, then the two checks of the closed names.
 -- Assumes nothing.
-use Prim.Native.Nat.{_^_, _≤_, _<_}
+use Prim.Native.Nat.{_^_, _≤_}
 use lib.Dec.{ltb}
-use Rattle.machine.proofs.Rules.{_≡_, _∙_, sym, true, arith, needs, not-true, not-false, ltb-true, lt-ltb, le-ltb}
-use Rattle.machine.specs.Setup.{names, openNames, numberAnswer}
+use Rattle.machine.proofs.Rules.{_≡_, _∙_, sym, Bool, true, false, cond, arith, needs, not-true, not-false, ltb-true, lt-ltb, le-ltb}
+use Rattle.machine.specs.Answer as answer
+use Rattle.machine.specs.Setup.{names, openNames, numberAnswer, setupAnswer}
+use Rattle.machine.specs.declared.Setup.{Setup}
 use Rattle.machine.proofs.Facts.Leaves.{leaves-high}
 use Rattle.machine.proofs.Laws.Setup.{numbers-refused, numbers-passed}
 use Rattle.machine.proofs.Ranges.{Limits, numbers-of}
@@ -43,32 +45,28 @@ outside c =
     let fails = rw (made .product .ensures) at (sym (c .before .is-below .ensures) ∙ not-true _ (c .if2 .taken)) in
     sym (numbers-passed s (passed past) ∙ rw fails)
 
--- how many are open
-opened : (c : tie.After-open-of) → let s = c .before .before .before .before .before .before .args .setup in
-    c .open-of .result ≡ openNames s
-opened c =
-    let past = c .before in
-    let made = past .before .before in
-    let s = made .before .before .before .args .setup in
-    rw (made .product .ensures) at (c .open-of .ensures) ∙ sym (names-open s (ltb-true _ _ (inside past)))
+-- past the count of the open names, which decides
+module _ (c : tie.After-open-of) where
+  abbrev numbers : tie.Else1
+  numbers = c .before .before .before .before
+
+  abbrev s : Setup
+  s = numbers .before .before .args .setup
+
+  opened : c .open-of .result ≡ openNames s
+  opened =
+      let below = ltb-true _ _ (inside (c .before)) in
+      rw (c .before .before .before .product .ensures) at (c .open-of .ensures) ∙ sym (names-open s below)
+
+  answered : (t : Bool) → ltb 0 (openNames s) ≡ t → cond t answer.accepted answer.noneOpen ≡ setupAnswer s
+  answered true e = sym (numbers-passed s (passed numbers) ∙ rw (inside (c .before), e))
+  answered false e = sym (numbers-passed s (passed numbers) ∙ rw (inside (c .before), e))
 
 none-open : tie.Need-returns-3
-none-open c =
-    let past = c .before .before in
-    let numbers = past .before .before .before in
-    let s = numbers .before .before .args .setup in
-    sym
-    (numbers-passed s (passed numbers)
-    ∙ rw (inside past, le-ltb 0 (openNames s) (omega (arith, opened (c .before), c .if3 .taken))))
+none-open c = answered (c .before) false (le-ltb 0 (openNames (s (c .before))) (omega (arith, opened (c .before), c .if3 .taken)))
 
 accepted : tie.Need-returns-4
-accepted c =
-    let past = c .before .before in
-    let numbers = past .before .before .before in
-    let s = numbers .before .before .args .setup in
-    sym
-    (numbers-passed s (passed numbers)
-    ∙ rw (inside past, lt-ltb 0 (openNames s) (omega (arith, opened (c .before), c .if3 .left))))
+accepted c = answered (c .before) true (lt-ltb 0 (openNames (s (c .before))) (omega (arith, opened (c .before), c .if3 .left)))
 
 pub setup-answer-spec : {M : Type 1} → statement M
 setup-answer-spec =

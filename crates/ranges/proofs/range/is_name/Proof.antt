@@ -1,6 +1,6 @@
 -- `is_name` meets its contract: of a name below k the bit that is looked at is its own, and of any other it does not matter. Assumes
 -- nothing.
-use Prim.Native.Nat.{ℕ, _%_, _≤_, _<_}
+use Prim.Native.Nat.{ℕ, _%_, _≤_}
 use native.Mathlib.Nat.{mod-lt, mod-eq-of-lt}
 use lib.Dec.{eqb, ltb}
 use Rattle.machine.proofs.Rules.{_≡_, _∙_, sym, ap, Bool, true, false, refl, _||_, _&&_, arith, needs, ltb-true}

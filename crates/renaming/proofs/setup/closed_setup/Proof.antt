@@ -2,11 +2,10 @@
 -- both the list is the number that it closes, and the rest is the setup's. Assumes nothing.
 use mathlib.Core.List.{List}
 use Prim.Native.Nat.{ℕ}
-use Rattle.machine.proofs.Rules.{_≡_, _∙_, sym, ap, true, arith, needs, not-true, not-false}
+use Rattle.machine.proofs.Rules.{_≡_, _∙_, sym, ap, arith, needs, not-true, not-false}
 use Rattle.machine.specs.Closed.{listsBelow}
 use Rattle.machine.specs.Setup.{numbered, given, plain, names, setupAnswer}
 use Rattle.machine.specs.State.{done, blank, partialSetup}
-use Rattle.machine.specs.declared.Done.{Done}
 use Rattle.machine.specs.declared.Setup.{Setup}
 use Rattle.machine.proofs.Laws.Setup.{setup-refused}
 use Rattle.machine.proofs.Ranges.{limits-of}
