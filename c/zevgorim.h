@@ -118,7 +118,7 @@ enum {
  * painted stack was written, with the archive as the toolchain compiles it (-O3) and glibc's memcpy and memset, and c/run fails where a
  * call takes more. What the caller's own frame has for the state handed over (552 bytes) and the result (560 bytes) comes on top. */
 enum {
-    ZEVGORIM_STACK_SETUP = 1152, /* setup, partial_setup */
+    ZEVGORIM_STACK_SETUP = 1280, /* setup, partial_setup */
     ZEVGORIM_STACK_CLOSED_SETUP = 1792,
     ZEVGORIM_STACK_EVENT = 2432,  /* event, request, step, release, run */
     ZEVGORIM_STACK_REPORT = 1280, /* gate_report, fill_status */
