@@ -84,13 +84,13 @@ module _ (c : Setup) (accepted : setupAnswer c ≡ 0) where
   holds : (es : List Event) → Claim c (afterList c) es
   holds es =
       record {
-        admitted-open = subst (λ (d : Setup). admitted (t es) ≤ openNames d) (setup-is es) (admitted-few (t es) (sound es));
+        admitted-open = omega (arith, subst (λ (d : Setup). admitted (t es) ≤ openNames d) (setup-is es) (admitted-few (t es) (sound es)));
         held-open = λ p k e. held es p k e .is-open;
-        held-below = λ p k e. held es p k e .below;
+        held-below = λ p k e. omega (arith, held es p k e .below);
         held-unlike = λ p q k j d e f. names-unlike (one es p k) e q (known es q j) d;
         none-exhausted = λ p k. not-exhausted (one es p k);
         held-low = λ m few p k e.
-            subst (λ (d : Setup). rank d (processAt (t es) p .name) < m) (setup-is es) (name-low (low es p k m few) e);
+            omega (arith, subst (λ (d : Setup). rank d (processAt (t es) p .name) < m) (setup-is es) (name-low (low es p k m few) e));
         steps-counted = steps-are es;
         returns-counted = returns-are es;
         steps-least = λ p k e. omega (arith, least-steps (one es p k) e, height-is es);
