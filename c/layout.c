@@ -16,7 +16,7 @@ _Static_assert(offsetof(zevgorim_state, gate) == 16 && offsetof(zevgorim_state, 
 _Static_assert(offsetof(zevgorim_state, queue) == 18 && offsetof(zevgorim_state, counters) == 82, "queue, counters");
 _Static_assert(offsetof(zevgorim_state, words) == 98 && offsetof(zevgorim_state, process) == 162, "words, processes");
 _Static_assert(offsetof(zevgorim_state, process[64]) == 546, "padding at the end");
-_Static_assert(sizeof(zevgorim_done) == 560 && offsetof(zevgorim_done, state) == 8, "done");
+_Static_assert(sizeof(zevgorim_done) == 560 && offsetof(zevgorim_done, state) == 0 && offsetof(zevgorim_done, answer) == 552, "done");
 _Static_assert(sizeof(zevgorim_report) == 3 && offsetof(zevgorim_report, free) == 1, "report");
 _Static_assert(sizeof(zevgorim_status) == 3 && offsetof(zevgorim_status, name) == 1, "status");
 _Static_assert(sizeof(zevgorim_written) == 16 && offsetof(zevgorim_written, size) == 8, "written");

@@ -159,10 +159,10 @@ typedef struct {
     zevgorim_process process[64]; /* N of them */
 } zevgorim_state;
 
-/* An answer, and the state after the call, in 560 bytes: 7 bytes of padding come before the state. */
+/* The state after the call, and the answer behind it, in 560 bytes: 7 bytes of padding come after the answer. */
 typedef struct {
-    uint8_t answer;
     zevgorim_state state;
+    uint8_t answer;
 } zevgorim_done;
 
 /* The gate report. */

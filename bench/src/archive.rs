@@ -55,12 +55,12 @@ pub struct State {
     pub process: [Process; 64],
 }
 
-/// What a call answers, and the state after it.
+/// The state after a call, and what it answers.
 #[repr(C)]
 #[derive(Clone, Copy, PartialEq, Eq, Debug)]
 pub struct Done {
-    pub answer: u8,
     pub state: State,
+    pub answer: u8,
 }
 
 /// The gate report.
@@ -119,7 +119,8 @@ const _: () = {
     assert!(offset_of!(State, words) == 98);
     assert!(offset_of!(State, process) == 162);
     assert!(size_of::<Done>() == 560);
-    assert!(offset_of!(Done, state) == 8);
+    assert!(offset_of!(Done, state) == 0);
+    assert!(offset_of!(Done, answer) == 552);
     assert!(IMAGE_BYTES == simulator::IMAGE_BYTES);
     assert!(size_of::<Report>() == 3);
     assert!(size_of::<Written>() == 16);

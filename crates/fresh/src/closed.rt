@@ -3,9 +3,8 @@ use machine::Setup;
 ghost use mathlib.Core.Path.{_≡_};
 ghost use Prim.Native.Nat.{_*_, _-_, _/_, _%_, _^_, _≤_, _<_};
 ghost use lib.Count.{ones};
-ghost use lib.Dec.{ltb, eqb};
+ghost use lib.Dec.{ltb};
 ghost use Rattle.machine.specs.Closed.{closedWord};
-ghost use Rattle.machine.specs.Operations.{bit};
 ghost use Rattle.machine.specs.Setup.{setupAnswer};
 ghost use Rattle.fresh.specs.Counts.{closedIn};
 
@@ -17,21 +16,21 @@ fn mask(n: u8) -> u64
     (1u64 << n) - 1
 }
 
+// The lowest n bits of w.
+pub fn lowest(w: u64, n: u8) -> u64
+    requires { ⌜ n < 64 ⌝ }
+    ensures { λ r. ⌜ r ≡ w % 2 ^ n ⌝ }
+{
+    let low = mask(n);
+    w & low
+}
+
 // n bits of w, from bit `first` on.
 fn part(w: u64, first: u8, n: u8) -> u64
     requires { ⌜ (first < 64) × (n < 64) ⌝ }
     ensures { λ r. ⌜ r ≡ w / 2 ^ first % 2 ^ n ⌝ }
 {
-    let low = mask(n);
-    (w >> first) & low
-}
-
-// Is name p open?
-pub fn is_open(closed: u64, p: u8) -> bool
-    requires { ⌜ p < 64 ⌝ }
-    ensures { λ r. ⌜ r ≡ eqb (bit closed p) 0 ⌝ }
-{
-    (closed >> p) % 2 == 0
+    lowest(w >> first, n)
 }
 
 // Is no bit of w set from bit k on?
@@ -46,7 +45,7 @@ pub(crate) fn is_below(w: u64, k: u8) -> bool
 }
 
 // How many of n names from one on are closed, half of all at most.
-pub(crate) fn closed_in(closed: u64, first: u8, n: u8) -> u8
+pub fn closed_in(closed: u64, first: u8, n: u8) -> u8
     requires { ⌜ (first < 64) × (n ≤ 32) ⌝ }
     ensures { λ r. ⌜ r ≡ closedIn closed first n ⌝ }
 {

@@ -5,8 +5,10 @@ use machine::stage;
 ghost use mathlib.Core.Bool.{true};
 ghost use mathlib.Core.Path.{_≡_};
 ghost use Prim.Native.Nat.{_≤_};
+ghost use lib.Dec.{eqb};
 ghost use lib.IntN.{sucℤ, predℤ};
 ghost use lib.ListN.{length};
+ghost use Rattle.machine.specs.Below.{indicator};
 ghost use Rattle.machine.specs.Gate.{above0, among, movedUp};
 ghost use Rattle.machine.specs.Room.{canFall, canRise};
 ghost use Rattle.gate.specs.Moves.{entered, enteredQueue, awaited, departed, departedQueue};
@@ -53,20 +55,26 @@ fn raised(k: u8, a: i8) -> i8
     a + 1
 }
 
-// Is process p among the first n of the queue?
+// Is process p the number x? 1 or 0, so that the search below has no branch on it.
+fn same(x: u8, p: u8) -> u8
+    ensures { λ r. ⌜ r ≡ indicator (eqb x p) ⌝ }
+{
+    if x == p { 1 } else { 0 }
+}
+
+// Is process p among the first n of the queue? It stops nowhere: where p stands in the queue no processor foresees.
 fn in_queue(queue: &[u8; 64], n: u8, p: u8) -> bool
     requires { ⌜ n ≤ 64 ⌝ }
     ensures { λ r. ⌜ r ≡ among (now (queue .entry)) n p ⌝ }
 {
     let end = n as usize;
+    let mut found: u8 = 0;
     let mut i: usize = 0;
     while i < end {
-        if queue[i] == p {
-            return true;
-        }
+        found = found | same(queue[i], p);
         i += 1;
     }
-    false
+    found != 0
 }
 
 // The queue's head goes, the rest move up, and the last place is 0.

@@ -1,18 +1,10 @@
-// What a process has counted since its last request, getname steps and return operations together. The tests are in bytes: one number
+// What a process has counted since its last request, getname steps and return operations together. The test is in bytes: one number
 // against what the other leaves of 255.
 use crate::Process;
 ghost use mathlib.Core.Path.{_≡_};
 ghost use Prim.Native.Nat.{_≤_};
-ghost use lib.Dec.{leb};
 ghost use Rattle.machine.specs.Room.{hasRoom};
 ghost use Rattle.machine.specs.State;
-
-// Is the sum in range?
-pub fn within(h: Process) -> bool
-    ensures { λ r. ⌜ r ≡ leb (State.figure h) 255 ⌝ }
-{
-    h.returns <= 255 - h.steps
-}
 
 // Has it room for one more?
 pub fn has_room(h: Process) -> bool

@@ -43,11 +43,12 @@ pub struct State {
     pub process: [Process; 64],
 }
 
-// What a call answers: 0 or the number of a refusal, with the state after it.
+// The state after a call, and what it answers: 0 or the number of a refusal. The state comes first: behind the answer it would lie past
+// padding, and be put together aside and copied once more.
 #[repr(C)]
 pub struct Done {
-    pub answer: u8,
     pub state: State,
+    pub answer: u8,
 }
 
 // What an atomic operation answers, and the word that it leaves.

@@ -1,7 +1,7 @@
 -- The greatest of the first numbers of a list, and the bits of those past them, are found place by place and decide the
 -- tests of the queue and of the words: by comparing at each place.
 --     of-none, larger, no-larger        the greatest, one place more
---     bits-more                         the bits, one place more
+--     or-none, bits-more                the bits, one place more
 --     entry-out, past-decides           the queue
 --     words-decide                      the words
 -- Assumes nothing.
@@ -14,12 +14,12 @@ use lib.Dec.{eqb, ltb, leb}
 use lib.ListN.{getD}
 use lib.Pow.{pow-pos}
 use Rattle.machine.proofs.Rules.{_≡_, refl, cond, false, Bool, _||_, true, _&&_, ⊎-elim, inl, inr}
-use Rattle.machine.proofs.Rules.{arith, eq-eqb, leb-true, eqb-true, lt-ltb, le-leb, le-ltb, ltb-true}
+use Rattle.machine.proofs.Rules.{arith, eq-eqb, ne-eqb, leb-true, eqb-true, lt-ltb, le-leb, le-ltb, ltb-true}
 use Rattle.machine.specs.Below.{allBelow}
 use Rattle.machine.specs.Range.{placeTest, wordTest}
 use Rattle.machine.specs.declared.Setup.{Setup}
 use Rattle.machine.proofs.Facts.Below.{all-in, all-at, all-fails, all-same}
-use Rattle.machine.proofs.Facts.Tests.{both, and-left, and-right, same-test}
+use Rattle.machine.proofs.Facts.Tests.{by-cond, both, and-left, and-right, same-test}
 use Rattle.ranges.specs.Tests.{Greatest, pastTest}
 
 module _ {xs : List ℕ} where
@@ -51,7 +51,7 @@ module _ {xs : List ℕ} where
       (g .met)
 
 -- bits are 0 where those of both are
-or-none : (a b : ℕ) → eqb (bitOr a b) 0 ≡ (eqb b 0 && eqb a 0)
+pub or-none : (a b : ℕ) → eqb (bitOr a b) 0 ≡ (eqb b 0 && eqb a 0)
 or-none a b =
     same-test
     (eqb (bitOr a b) 0)
@@ -70,17 +70,20 @@ bits-more f i b x p h = rw (add-one, or-none b x, p, h)
 
 -- the queue q of m entries below n
 module _ (q : List ℕ) (m n : ℕ) where
-  pub entry-out : {r : ℕ} → m ≤ 64 → 1 ≤ n → Greatest q m r → n ≤ r → allBelow 64 (placeTest n m q) ≡ false
-  entry-out {r} l k g h =
-      greatest-fails (placeTest n m q) l g (λ z. omega arith)
-      (λ i t e. simp (lt-ltb i m t, le-ltb (getD q i 0) n (rw e h)))
+  pub entry-out : {r : ℕ} → 1 ≤ n → Greatest q 64 r → n ≤ r → allBelow 64 (placeTest n m q) ≡ false
+  entry-out {r} k g h =
+      greatest-fails (placeTest n m q) (omega arith) g (λ z. omega arith)
+      (λ i t e.
+      by-cond (λ (x : Bool). x ≡ false) (ltb i m)
+      (λ _. le-ltb (getD q i 0) n (rw e h))
+      (λ _. ne-eqb (getD q i 0) 0 (λ z. absurd (omega (arith, e, z, h, k)))))
 
-  -- where every entry is below n, the places past them decide
-  pub past-decides : {r : ℕ} → Greatest q m r → r < n → allBelow 64 (placeTest n m q) ≡ allBelow 64 (pastTest m q)
-  past-decides {r} g h = all-same 64 (placeTest n m q) (pastTest m q) (λ i l. go i (ltb i m) refl) where
-    go : (i : ℕ) (t : Bool) → ltb i m ≡ t → cond t (ltb (getD q i 0) n) (eqb (getD q i 0) 0) ≡ (t || eqb (getD q i 0) 0)
-    go i true e = lt-ltb (getD q i 0) n (omega (arith, g .most i (ltb-true i m e)))
-    go i false e = refl
+  -- where every number is below n, the places past the entries decide
+  pub past-decides : {r : ℕ} → Greatest q 64 r → r < n → allBelow 64 (placeTest n m q) ≡ allBelow 64 (pastTest m q)
+  past-decides {r} g h = all-same 64 (placeTest n m q) (pastTest m q) (λ i l. go i l (ltb i m) refl) where
+    go : (i : ℕ) → i < 64 → (t : Bool) → ltb i m ≡ t → cond t (ltb (getD q i 0) n) (eqb (getD q i 0) 0) ≡ (t || eqb (getD q i 0) 0)
+    go i l true e = lt-ltb (getD q i 0) n (omega (arith, g .most i l))
+    go i l false e = refl
 
 -- the words ws, each at most the greatest of a setup's bits
 module _ {ws : List ℕ} {e r top : ℕ} (c : Setup) (m : top ≡ 2 ^ c .bits - 1) (g : Greatest ws e r) where

@@ -28,7 +28,9 @@ fn negated(a: i8) -> i8
 pub fn gate_report(state: State) -> Report
     ensures { λ r. ⌜ r ≡ gateReport state ⌝ }
 {
-    if !range::in_range(state) {
+    // `in_range` spelled out: called from two places, the survey stays a function of its own, and the compiler takes numbers of a process
+    // at once.
+    if !range::fits(range::survey(state)) {
         return Report {
             answer: answer::BROKEN_STATE,
             free: 0,

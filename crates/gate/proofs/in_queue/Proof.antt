@@ -1,46 +1,45 @@
--- `in_queue` meets its contract. The loop keeps that no place passed holds p; what is left of n falls. Assumes nothing.
-use mathlib.Core.List.{List}
-use Prim.Native.Nat.{ℕ, _-_, _≤_}
+-- `in_queue` meets its contract. The loop keeps that found is 1 where a place passed holds p, and 0 where none does; what is
+-- left of n falls.
+-- Assumes nothing.
+use Prim.Native.Nat.{_-_, _≤_}
 use native.Mathlib.Nat.{le-antisymm}
+use native.Mathlib.Numerals.{add-one}
+use lib.Bits.{bitOr}
 use lib.Dec.{eqb}
-use lib.ListN.{getD}
-use Rattle.machine.proofs.Rules.{_≡_, sym, ap, refl, true, not, Bool, needs, tests}
-use Rattle.machine.specs.Below.{allBelow}
+use Rattle.machine.proofs.Rules.{_≡_, refl, true, false, not, _&&_, Bool, needs}
+use Rattle.machine.specs.Below.{allBelow, indicator}
 use Rattle.machine.specs.Gate.{among}
-use Rattle.machine.proofs.Facts.Below.{all-more, all-fails}
 use Rattle.gate.proofs.in_queue.Statement.{statement}
 use Rattle.gate.proofs.in_queue.Tie as tie
 
--- place j of the queue does not hold p
-abbrev off : List ℕ → ℕ → ℕ → Bool
-off queue p j = not (eqb (getD queue j 0) p)
-
 abbrev Inv-loop : tie.InvT-loop
-Inv-loop queue n p end i₀ i = (i ≤ end) × (allBelow i (off queue p) ≡ true)
+Inv-loop queue n p end found₀ i₀ found i = (i ≤ end) × (found ≡ indicator (among queue i p))
 
 abbrev μ-loop : tie.MeasureT-loop
-μ-loop queue n p end i₀ i = end - i
+μ-loop queue n p end found₀ i₀ found i = end - i
+
+-- one place more: s says that no place passed holds p, t that this one does
+one-more : (s t : Bool) → bitOr (indicator (not s)) (indicator t) ≡ indicator (not (not t && s))
+one-more true true = refl
+one-more true false = refl
+one-more false true = refl
+one-more false false = refl
+
+-- the number is not 0 exactly where the test holds
+not-none : (t : Bool) → not (eqb (indicator t) 0) ≡ t
+not-none true = refl
+not-none false = refl
 
 loop-holds : tie.Need-loop-holds Inv-loop μ-loop
-unfolding allBelow
+unfolding allBelow among
 loop-holds c = (search needs, refl)
 
-returns : tie.Need-returns Inv-loop μ-loop
-unfolding among
-returns c =
-    let a = c .before .before .before .before .args in
-    let at = c .before .before .before .loop in
-    sym (ap not (all-fails (a .n) (off (a .queue .now) (a .p)) (at .i) (search needs) (search tests)))
-
 loop-again : tie.Need-loop-again Inv-loop μ-loop
-loop-again c =
-    let a = c .before .before .before .before .args in
-    let at = c .before .before .before .loop in
-    (search needs, all-more (at .i) (off (a .queue .now) (a .p)) (at .inv .1) (search tests))
+unfolding allBelow among
+loop-again c = (search needs, simp (add-one, c .before .before .before .loop .inv .1, c .same .ensures, one-more))
 
-returns-2 : tie.Need-returns-2 Inv-loop μ-loop
-unfolding among
-returns-2 c = sym (ap not (rw (le-antisymm (c .before .loop .inv .0) (c .loop-test .left)) at (c .before .loop .inv .1)))
+returns : tie.Need-returns Inv-loop μ-loop
+returns c = rw (c .before .loop .inv .1, le-antisymm (c .before .loop .inv .0) (c .loop-test .left)) (not-none _)
 
 pub in-queue-spec : {M : Type 1} → statement M
 in-queue-spec =
@@ -48,9 +47,7 @@ in-queue-spec =
     (tie.spec Inv-loop μ-loop
     -- before the loop
     loop-holds
-    -- p is found
-    (λ c. search needs) returns
     -- a turn
-    (λ c. search needs) (λ c. search needs) loop-again
+    (λ c. search needs) (λ c κs. search needs) (λ c. search needs) (λ c. search needs) loop-again
     -- after the loop
-    returns-2)
+    returns)

@@ -59,4 +59,4 @@ entry-in-range-spec =
     -- the gate word
     (λ c κs. accepted c) (λ c κs. rw (c .open-names .ensures) (open-64 _ (limits (c .before)))) gate-fails
     -- the queue: its length, and its places
-    queue-long (λ c κs. (c .if3 .left, limits (c .before .before .before .before) .n1)) queue-decides)
+    queue-long (λ c κs. limits (c .before .before .before .before) .n1) queue-decides)

@@ -1,4 +1,4 @@
--- `queue_in_range` meets its contract: the greatest entry, and the bits past the end. Assumes nothing.
+-- `queue_in_range` meets its contract: the greatest number, and the bits past the end. Assumes nothing.
 use Rattle.machine.proofs.Rules.{sym, _∙_, needs}
 use Rattle.ranges.proofs.Bounds.{entry-out, past-decides}
 use Rattle.ranges.proofs.range.queue_in_range.Statement.{statement}
@@ -8,7 +8,7 @@ returns : tie.Need-returns
 returns c =
     let start = c .before .before in
     let a = start .args in
-    sym (entry-out (a .queue .now) (a .m) (a .n) (start .pre .0) (start .pre .1) (c .before .greatest .ensures) (c .if1 .taken))
+    sym (entry-out (a .queue .now) (a .m) (a .n) (start .pre) (c .before .greatest .ensures) (c .if1 .taken))
 
 returns-2 : tie.Need-returns-2
 returns-2 c =
@@ -20,7 +20,7 @@ pub queue-in-range-spec : {M : Type 1} → statement M
 queue-in-range-spec =
     tie.close
     (tie.spec
-    -- `greatest(queue, m) >= n`
+    -- `greatest(queue, 64) >= n`
     (λ c κs. search needs) returns
     -- otherwise
     (λ c κs. search needs) returns-2)

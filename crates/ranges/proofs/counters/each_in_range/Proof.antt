@@ -1,4 +1,4 @@
--- `counters_in_range` meets its contract. The loop keeps that every counter passed is in range; what is left of 16 falls.
+-- `each_in_range` meets its contract. The loop keeps that every counter passed is in range; what is left of 16 falls.
 -- Assumes nothing.
 use mathlib.Core.List.{List}
 use Prim.Native.Nat.{ℕ, _+_, _-_, _<_, _≤_}
@@ -10,8 +10,8 @@ use Rattle.machine.specs.Range.{counterTest}
 use Rattle.machine.specs.declared.Setup.{Setup}
 use Rattle.machine.proofs.Ranges.{limits-of}
 use Rattle.fresh.proofs.Accepted.{leaves-16}
-use Rattle.ranges.proofs.range.counters_in_range.Statement.{statement}
-use Rattle.ranges.proofs.range.counters_in_range.Tie as tie
+use Rattle.ranges.proofs.counters.each_in_range.Statement.{statement}
+use Rattle.ranges.proofs.counters.each_in_range.Tie as tie
 
 -- the counter of node v, in its range
 abbrev at : Setup → List ℕ → ℕ → Bool
@@ -56,8 +56,8 @@ returns-2 c =
     sym (all-in (a .setup .leaves) (at (a .setup) (a .counters .now))
     (λ u h. c .before .loop .inv .1 u (omega (arith, h, few, c .loop-test .left)) h))
 
-pub counters-in-range-spec : {M : Type 1} → statement M
-counters-in-range-spec =
+pub each-in-range-spec : {M : Type 1} → statement M
+each-in-range-spec =
     tie.close
     (tie.spec Inv-loop μ-loop
     -- before the loop

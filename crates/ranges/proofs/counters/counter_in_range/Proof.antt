@@ -1,7 +1,7 @@
 -- `counter_in_range` meets its contract: node 0 by itself, another by the comparison with its fresh value. Assumes nothing.
 use Rattle.machine.proofs.Rules.{arith, ne-eqb}
-use Rattle.ranges.proofs.range.counter_in_range.Statement.{statement}
-use Rattle.ranges.proofs.range.counter_in_range.Tie as tie
+use Rattle.ranges.proofs.counters.counter_in_range.Statement.{statement}
+use Rattle.ranges.proofs.counters.counter_in_range.Tie as tie
 
 pub counter-in-range-spec : {M : Type 1} → statement M
 counter-in-range-spec =
