@@ -120,7 +120,7 @@ enum {
 enum {
     ZEVGORIM_STACK_SETUP = 1280, /* setup, partial_setup */
     ZEVGORIM_STACK_CLOSED_SETUP = 1792,
-    ZEVGORIM_STACK_EVENT = 2432,  /* event, request, step, release, run */
+    ZEVGORIM_STACK_EVENT = 1280,  /* event, request, step, release, run */
     ZEVGORIM_STACK_REPORT = 1280, /* gate_report, fill_status */
     ZEVGORIM_STACK_READ_SETUP = 2432,
     ZEVGORIM_STACK_SMALL = 128, /* file_answer, read_events, write_file, journal_text, dearest_list */

@@ -8,12 +8,12 @@
 use mathlib.Core.Bool.{and-assoc, or-false}
 use Prim.Native.Nat.{ℕ, _+_, _*_, _-_, _/_, _%_, _^_, _<_, _≤_}
 use native.Mathlib.Decide.{ℕ-discrete, decLt}
-use native.Mathlib.Nat.{mod-lt, mod-eq-of-lt, div-eq-of-lt, zero-div, zero-mod}
+use native.Mathlib.Nat.{mod-lt, mod-eq-of-lt, div-eq-of-lt, zero-div}
 use lib.Bits.{bitOr}
 use lib.Dec.{leb, ltb, eqb}
 use lib.Pow.{pow-pos, pow-mono}
-use Rattle.machine.proofs.Rules.{_≡_, _∙_, sym, ap, refl, Bool, true, false, cond, _&&_, _||_, and-true, and-false, or-true, _≢_, false≢true}
-use Rattle.machine.proofs.Rules.{arith, leb-true, ltb-true, ltb-false, le-leb, lt-leb, lt-ltb, le-ltb, eq-eqb, ne-eqb, eqb-true}
+use Rattle.machine.proofs.Rules.{_≡_, _∙_, sym, ap, refl, Bool, true, false, cond, _&&_, and-true, and-false, or-true, _≢_, false≢true}
+use Rattle.machine.proofs.Rules.{arith, leb-true, ltb-true, ltb-false, le-leb, lt-leb, lt-ltb, le-ltb, eq-eqb, ne-eqb}
 use Rattle.machine.specs.Closed.{isOpen}
 use Rattle.machine.specs.Operations.{bit}
 use Rattle.machine.specs.Range.{nameTest, processTests, processTest}
@@ -25,7 +25,7 @@ use Rattle.machine.specs.declared.Setup.{Setup}
 use Rattle.machine.proofs.Facts.Tests.{all-of, by-cond, both, and-left, and-right, same-test}
 use Rattle.machine.proofs.Facts.Words.{bit-mod}
 use Rattle.machine.proofs.Ranges.{limits-of, closed-of}
-use Rattle.ranges.specs.Tests.{nameLimit, shutTest}
+use Rattle.ranges.specs.Tests.{nameLimit, shutTest, found}
 use Rattle.ranges.proofs.Bounds.{or-none}
 
 greater-most : (a b m : ℕ) → leb (cond (ltb a b) b a) m ≡ (leb b m && leb a m)
@@ -50,7 +50,7 @@ joined {x} {y} a s b t e f = rw (e, f) (swapped a s b t)
     swapped true s false t = and-false s
     swapped true s true t = refl
 
--- what was found, against what each number may be: stage, node, segment, name, and the sums
+-- what was found, but for the stage; for stage and node; and the name and the sums alone
 module _ (c : Setup) where
   abbrev named : ℕ → ℕ → Bool
   named name over = leb name (nameLimit c) && eqb over 0
@@ -61,10 +61,7 @@ module _ (c : Setup) where
   abbrev rooted : ℕ → ℕ → ℕ → ℕ → Bool
   rooted node segment name over = leb node (2 * c .leaves - 2) && placed segment name over
 
-  abbrev pub found : ℕ → ℕ → ℕ → ℕ → ℕ → Bool
-  found stage node segment name over = leb stage exhausted && rooted node segment name over
-
-  pub found-none : found 0 0 0 0 0 ≡ true
+  pub found-none : found c 0 0 0 0 0 ≡ true
   found-none =
       both (le-leb 0 exhausted (omega arith))
       (both (le-leb 0 (2 * c .leaves - 2) (omega arith))
@@ -73,14 +70,16 @@ module _ (c : Setup) where
   pub one-more :
       (stage node segment name over u v w m x : ℕ) {u′ v′ w′ m′ : ℕ}
       → u′ ≡ cond (ltb stage u) u stage → v′ ≡ cond (ltb node v) v node → w′ ≡ cond (ltb segment w) w segment
-      → m′ ≡ cond (ltb name m) m name → found u′ v′ w′ m′ (bitOr over x) ≡ (found u v w m x && found stage node segment name over)
+      → m′ ≡ cond (ltb name m) m name
+      → found c u′ v′ w′ m′ (bitOr over x) ≡ (found c u v w m x && found c stage node segment name over)
   one-more stage node segment name over u v w m x e f g h =
       joined (leb u exhausted) (leb stage exhausted) (rooted v w m x) (rooted node segment name over) (greater-is stage u exhausted e)
       (joined (leb v (2 * c .leaves - 2)) (leb node (2 * c .leaves - 2)) (placed w m x) (placed segment name over)
       (greater-is node v (2 * c .leaves - 2) f)
       (joined (leb w (c .segments - 1)) (leb segment (c .segments - 1)) (named m x) (named name over)
       (greater-is segment w (c .segments - 1) g)
-      (joined (leb m (nameLimit c)) (leb name (nameLimit c)) (eqb x 0) (eqb over 0) (greater-is name m (nameLimit c) h) (or-none over x))))
+      (joined (leb m (nameLimit c)) (leb name (nameLimit c)) (eqb x 0) (eqb over 0)
+      (greater-is name m (nameLimit c) h) (or-none over x))))
 
 -- bit 63 of what is below 2^63
 no-bit-63 : (w : ℕ) → bit (w % 2 ^ 63) 63 ≡ 0
@@ -189,14 +188,17 @@ module _ (c : Setup) (accepted : setupAnswer c ≡ 0) (h : Process) where
       go (yes l) =
           absurd
           (false≢true
-          (simp (le-ltb (h .name) (names c) (omega (arith, l, limits-of c accepted .k64)), ne-eqb (h .name) 255 (λ q. absurd (omega (arith, l, q))))
-          at e))
+          (simp (
+            le-ltb (h .name) (names c) (omega (arith, l, limits-of c accepted .k64)),
+            ne-eqb (h .name) 255 (λ q. absurd (omega (arith, l, q))),
+          ) at e))
       go (no l) = omega (arith, l)
 
   pub process-open : processTest c h ≡ true → shutTest c (h .name) ≡ true
   process-open e =
       let name : nameTest c (h .name) ≡ true = all-of (processTests c h) e 4 in
-      and-right (leb ((h .name + 1) % 256) (nameLimit c)) (shutTest c (h .name)) (sym (name-ranked c accepted (h .name) (name-255 name)) ∙ name)
+      let ranked = sym (name-ranked c accepted (h .name) (name-255 name)) ∙ name in
+      and-right (leb ((h .name + 1) % 256) (nameLimit c)) (shutTest c (h .name)) ranked
 
   pub process-tests :
       (v x : ℕ) {m : ℕ} → m ≡ (h .name + 1) % 256 → h .name ≤ 255 → shutTest c (h .name) ≡ true

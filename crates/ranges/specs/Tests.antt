@@ -4,7 +4,7 @@ use mathlib.Core.Path.{_≡_}
 use mathlib.Core.Bool.{Bool, cond, _&&_, _||_}
 use mathlib.Core.List.{List, [], _∷_}
 use mathlib.Core.Logic.{_⊎_}
-use Prim.Native.Nat.{ℕ, _+_, _*_, _/_, _%_, _^_, _<_, _≤_}
+use Prim.Native.Nat.{ℕ, _-_, _*_, _/_, _%_, _^_, _<_, _≤_}
 use lib.Dec.{leb, ltb, eqb}
 use lib.IntN.{ℤ}
 use lib.ListN.{getD}
@@ -13,6 +13,7 @@ use Rattle.machine.specs.Check.{allOf}
 use Rattle.machine.specs.Operations.{bit}
 use Rattle.machine.specs.Range.{entryTests, counterTest, wordTest, closedTest}
 use Rattle.machine.specs.Setup.{names}
+use Rattle.machine.specs.Stage.{exhausted}
 use Rattle.machine.specs.declared.Setup.{Setup}
 use Rattle.ranges.specs.declared.range.Found.{Found}
 
@@ -42,7 +43,13 @@ nameLimit c = cond (eqb (c .closed / 2 ^ 63) 0) (names c) 63
 abbrev pub shutTest : Setup → ℕ → Bool
 shutTest c m = eqb (bit (c .closed % 2 ^ 63) (m % 64)) 0
 
--- each number that was found is at most what it may be
+-- the greatest stage, node (less 1), segment and name (more 1), each at most what it may be, and no sum above 255
+abbrev pub found : Setup → ℕ → ℕ → ℕ → ℕ → ℕ → Bool
+found c stage node segment name over =
+    leb stage exhausted
+    && (leb node (2 * c .leaves - 2) && (leb segment (c .segments - 1) && (leb name (nameLimit c) && eqb over 0)))
+
+-- each number that was found is at most what stands beside it
 abbrev pub fitting : Found → Bool
 fitting f =
     leb (f .stage) (f .stages)

@@ -4,7 +4,7 @@ use fresh::counter;
 use fresh::limits;
 use machine::Setup;
 ghost use mathlib.Core.Path.{_≡_};
-ghost use Prim.Native.Nat.{_+_, _*_, _/_, _^_, _<_};
+ghost use Prim.Native.Nat.{_+_, _/_, _^_, _<_};
 ghost use lib.Dec.{eqb, leb};
 ghost use lib.ListN.{getD};
 ghost use Rattle.machine.specs.Below.{allBelow};

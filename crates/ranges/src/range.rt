@@ -15,7 +15,7 @@ ghost use Rattle.machine.specs.Check.{allOf};
 ghost use Rattle.machine.specs.Operations.{bit};
 ghost use Rattle.machine.specs.Range.{gateInRange, placeTest, wordTest, closedTest, entryTests, inRange};
 ghost use Rattle.machine.specs.Setup.{setupAnswer};
-ghost use Rattle.ranges.specs.Tests.{Greatest, pastTest, sharedTests, fitting, nameLimit};
+ghost use Rattle.ranges.specs.Tests.{Greatest, pastTest, sharedTests, nameLimit, found, fitting};
 
 // The greatest word of each number of bits.
 const MASKS: [u8; 9] = [0, 1, 3, 7, 15, 31, 63, 127, 255];
@@ -309,6 +309,24 @@ fn looked_at(setup: Setup) -> usize
     setup.processes as usize
 }
 
+// What was found, beside what each number may be in an accepted setup.
+fn beside(setup: Setup, stage: u8, node: u8, segment: u8, name: u8, over: u8) -> Found
+    requires { ⌜ setupAnswer setup ≡ 0 ⌝ }
+    ensures { λ r. ⌜ fitting r ≡ found setup stage node segment name over ⌝ }
+{
+    Found {
+        stage: stage,
+        node: node,
+        segment: segment,
+        name: name,
+        over: over,
+        stages: stage::EXHAUSTED,
+        nodes: 2 * setup.leaves - 2,
+        segments: setup.segments - 1,
+        names: name_limit(setup),
+    }
+}
+
 // A look at every number of a state. The loops stop nowhere; the numbers of a process are given one after another, so that the compiler
 // takes four of them at once.
 pub fn survey(s: State) -> Found
@@ -342,17 +360,7 @@ pub fn survey(s: State) -> Found
         over = over | sum_over(s.process[i].steps, s.process[i].returns);
         i += 1;
     }
-    Found {
-        stage: stage,
-        node: node,
-        segment: segment,
-        name: name,
-        over: over,
-        stages: stage::EXHAUSTED,
-        nodes: 2 * s.setup.leaves - 2,
-        segments: s.setup.segments - 1,
-        names: name_limit(s.setup),
-    }
+    beside(s.setup, stage, node, segment, name, over)
 }
 
 // Is each number at most what it may be?

@@ -93,7 +93,8 @@ level-in-range-spec =
     tie.close
     (tie.spec Inv-loop μ-loop
     -- how many nodes, and names under each left child
-    (λ c. omega (arith, depth-low c)) (λ c κs. c .pre .0) (λ c. omega (arith, depth-low (c .before))) (λ c. omega (arith, depth-low (c .before)))
+    (λ c. omega (arith, depth-low c)) (λ c κs. c .pre .0)
+    (λ c. omega (arith, depth-low (c .before))) (λ c. omega (arith, depth-low (c .before)))
     loop-holds
     -- a turn
     (λ c κs. (omega arith, c .before .loop .inv .share)) (λ c. rw (c .closed-in .ensures) (closed-le _ _ _))

@@ -6,7 +6,7 @@ use Prim.Native.Nat.{ℕ, _+_, _-_, _*_, _%_, _^_, _≤_, _<_}
 use native.Mathlib.Nat.{le-antisymm, pow-succ'}
 use native.Mathlib.Numerals.{add-one}
 use lib.ListN.{getD}
-use Rattle.machine.proofs.Rules.{_≡_, _∙_, sym, ap, refl, true, false, Bool, _&&_, arith, needs, not-true, not-false}
+use Rattle.machine.proofs.Rules.{_≡_, _∙_, sym, ap, refl, true, Bool, _&&_, arith, needs, not-true, not-false}
 use Rattle.machine.specs.Below.{allBelow}
 use Rattle.machine.specs.Range.{counterTest}
 use Rattle.machine.specs.declared.Setup.{Setup}

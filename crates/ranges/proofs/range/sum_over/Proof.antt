@@ -1,5 +1,4 @@
 -- `sum_over` meets its contract: one number against what the other leaves of 255. Assumes nothing.
-use Prim.Native.Nat.{_≤_}
 use Rattle.machine.proofs.Rules.{_∙_, needs}
 use Rattle.machine.proofs.Facts.Sums.{sum-fits}
 use Rattle.ranges.proofs.range.sum_over.Statement.{statement}

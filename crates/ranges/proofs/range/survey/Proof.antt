@@ -8,9 +8,9 @@ use native.Mathlib.Nat.{le-refl, le-antisymm}
 use native.Mathlib.Numerals.{add-one}
 use mir.Facts.{toZ-ofZ}
 use mir.Syntax.{w8}
-use mir.Val.{toZ, ofZ}
 use lib.Dec.{eqb}
-use Rattle.machine.proofs.Rules.{_≡_, _∙_, sym, ap, refl, Bool, true, false, false≢true, cond, _&&_, arith, needs, not-true, not-false, eq-eqb, ne-eqb, eqb-true}
+use Rattle.machine.proofs.Rules.{_≡_, _∙_, sym, ap, refl, Bool, true, false, false≢true, cond, _&&_}
+use Rattle.machine.proofs.Rules.{arith, needs, not-true, not-false, eq-eqb, ne-eqb, eqb-true}
 use Rattle.machine.specs.Below.{allBelow}
 use Rattle.machine.specs.Check.{allOf}
 use Rattle.machine.specs.Range.{counterTest, wordTest, closedTest, processTest, entryTests, inRange}
@@ -21,9 +21,9 @@ use Rattle.machine.proofs.Facts.Below.{all-in, all-at}
 use Rattle.machine.proofs.Facts.Tests.{all-of, by-cond, and-left}
 use Rattle.machine.proofs.Ranges.{Limits, limits-of}
 use Rattle.fresh.proofs.Accepted.{leaves-1, leaves-16}
-use Rattle.ranges.specs.Tests.{sharedTests, shutTest}
+use Rattle.ranges.specs.Tests.{sharedTests, shutTest, found}
 use Rattle.ranges.proofs.Bounds.{bits-more}
-use Rattle.ranges.proofs.Ranks.{found, found-none, one-more, process-open, process-tests, names-open}
+use Rattle.ranges.proofs.Ranks.{found-none, one-more, process-open, process-tests, names-open}
 use Rattle.ranges.proofs.Verdict.{shared-fails, shared-passes}
 use Rattle.ranges.proofs.range.survey.Statement.{statement}
 use Rattle.ranges.proofs.range.survey.Tie as tie
@@ -119,8 +119,8 @@ limits {s} g = limits-of (s .setup) (g .shared .accepted)
 leaves : {s : State} {end a b c d e i : ℕ} → Going s end a b c d e i → (1 ≤ s .setup .leaves) × (s .setup .leaves ≤ 16)
 leaves g = (leaves-1 (limits g), leaves-16 (limits g))
 
-few-64 : {s : State} {end a b c d e i : ℕ} → Going s end a b c d e i → end ≤ 64
-few-64 g = omega (arith, g .all, limits g .n64)
+in-64 : (c : tie.In-loop2 Inv-loop μ-loop Inv-loop2 μ-loop2) → c .before .loop2 .i < 64
+in-64 c = omega (arith, c .before .loop2 .inv .all, limits (c .before .loop2 .inv) .n64, c .loop2-test .taken)
 
 both-sides : {a b x y : Bool} → a ≡ x → b ≡ y → (a && b) ≡ (x && y)
 both-sides e f = rw (e, f) refl
@@ -151,7 +151,8 @@ shut-fails {s} {n} k l e =
         (λ p m. process-open (s .setup) (k .accepted) (processAt s p) (all-at (s .setup .processes) (at s) f p (omega (arith, m, l))))))
 
 -- past the first loop no name is closed
-all-shown : {s : State} {last shut j : ℕ} → Looked s last shut j → last ≤ j → shut ≡ 0 → allBelow (s .setup .processes) (isShown s) ≡ true
+all-shown : {s : State} {last shut j : ℕ} → Looked s last shut j → last ≤ j → shut ≡ 0
+    → allBelow (s .setup .processes) (isShown s) ≡ true
 all-shown {s} {last} {shut} {j} g l z = go (ℕ-discrete (s .setup .closed) 0)
   where
     go : Dec (s .setup .closed ≡ 0) → allBelow (s .setup .processes) (isShown s) ≡ true
@@ -194,7 +195,8 @@ closed-out c =
     let after = c .before .before in
     let g = after .before .loop .inv in
     c .unfit2 .ensures
-    ∙ shut-fails (g .shared) (omega (arith, g .high, looked-in g)) (sym (g .passed) ∙ ne-eqb (after .before .loop .shut) 0 (c .before .if2 .taken))
+    ∙ shut-fails (g .shared) (omega (arith, g .high, looked-in g))
+    (sym (g .passed) ∙ ne-eqb (after .before .loop .shut) 0 (c .before .if2 .taken))
 
 loop2-holds : tie.Need-loop2-holds Inv-loop μ-loop Inv-loop2 μ-loop2
 unfolding allBelow
@@ -223,8 +225,8 @@ loop2-again c =
     let shown = all-at (s .setup .processes) (isShown s) (g .shown) i (omega (arith, inside, g .all)) in
     let v = noded .node-rank .result in
     let x = c .sum-over .result in
-    let tests = process-tests (s .setup) (g .shared .accepted) h v x (named .name-rank .ensures .0) (named .name-rank .ensures .1) shown node
-    (c .sum-over .ensures) in
+    let name = named .name-rank .ensures in
+    let tests = process-tests (s .setup) (g .shared .accepted) h v x (name .0) (name .1) shown node (c .sum-over .ensures) in
     let more = one-more (s .setup) (loop .stage) (loop .node) (loop .segment) (loop .name) (loop .over) (h .stage) v (h .segment)
     (named .name-rank .result) x
     (noded .before .greater .ensures) (named .before .before .greater2 .ensures) (named .before .greater3 .ensures)
@@ -242,7 +244,7 @@ all-found c =
     let after = c .before .before in
     let g = after .before .loop2 .inv in
     let last = le-antisymm (g .high) (after .loop2-test .left) ∙ g .all in
-    rw (c .name-limit .ensures) (g .passed ∙ ap (λ (x : ℕ). allBelow x (at (state (after .before)))) last ∙ g .shared .rest)
+    c .beside .ensures ∙ g .passed ∙ ap (λ (x : ℕ). allBelow x (at (state (after .before)))) last ∙ g .shared .rest
 
 pub survey-spec : {M : Type 1} → statement M
 survey-spec =
@@ -260,23 +262,17 @@ survey-spec =
     -- up to the processes
     (λ c. search needs) loop2-holds
     -- stage, node, segment and name of a process
-    (λ c. omega (arith, few-64 (c .before .loop2 .inv), c .loop2-test .taken))
-    (λ c. omega (arith, few-64 (c .before .loop2 .inv), c .loop2-test .taken)) (λ c κs. search needs)
-    (λ c. omega (arith, few-64 (c .before .before .loop2 .inv), c .before .loop2-test .taken))
-    (λ c. omega (arith, few-64 (c .before .before .loop2 .inv), c .before .loop2-test .taken)) (λ c κs. search needs) (λ c κs. search needs)
-    (λ c. omega (arith, few-64 (c .before .before .before .before .loop2 .inv), c .before .before .before .loop2-test .taken))
-    (λ c. omega (arith, few-64 (c .before .before .before .before .loop2 .inv), c .before .before .before .loop2-test .taken)) (λ c κs. search needs)
-    (λ c. omega (arith, few-64 (c .before .before .before .before .before .loop2 .inv), c .before .before .before .before .loop2-test .taken))
-    (λ c. omega (arith, few-64 (c .before .before .before .before .before .loop2 .inv), c .before .before .before .before .loop2-test .taken)) (λ c κs. search needs) (λ c κs. search needs)
+    (λ c. omega (arith, in-64 (c))) (λ c. omega (arith, in-64 (c))) (λ c κs. search needs)
+    (λ c. omega (arith, in-64 (c .before))) (λ c. omega (arith, in-64 (c .before))) (λ c κs. search needs) (λ c κs. search needs)
+    (λ c. omega (arith, in-64 (c .before .before .before))) (λ c. omega (arith, in-64 (c .before .before .before))) (λ c κs. search needs)
+    (λ c. omega (arith, in-64 (c .before .before .before .before))) (λ c. omega (arith, in-64 (c .before .before .before .before)))
+    (λ c κs. search needs) (λ c κs. search needs)
     -- and its sum
-    (λ c. omega (arith, few-64 (c .before .before .before .before .before .before .before .loop2 .inv), c .before .before .before .before .before .before .loop2-test .taken))
-    (λ c. omega (arith, few-64 (c .before .before .before .before .before .before .before .loop2 .inv), c .before .before .before .before .before .before .loop2-test .taken))
-    (λ c. omega (arith, few-64 (c .before .before .before .before .before .before .before .loop2 .inv), c .before .before .before .before .before .before .loop2-test .taken))
-    (λ c. omega (arith, few-64 (c .before .before .before .before .before .before .before .loop2 .inv), c .before .before .before .before .before .before .loop2-test .taken))
-    (λ c κs. search needs)
-    (λ c. omega (arith, few-64 (c .before .before .before .before .before .before .before .before .loop2 .inv), c .before .before .before .before .before .before .before .loop2-test .taken))
+    (λ c. omega (arith, in-64 (c .before .before .before .before .before .before)))
+    (λ c. omega (arith, in-64 (c .before .before .before .before .before .before)))
+    (λ c. omega (arith, in-64 (c .before .before .before .before .before .before)))
+    (λ c. omega (arith, in-64 (c .before .before .before .before .before .before))) (λ c κs. search needs)
+    (λ c. omega (arith, in-64 (c .before .before .before .before .before .before .before)))
     (λ c. omega (arith, c .before .before .before .before .before .before .before .loop2-test .taken)) loop2-again
     -- after the loop
-    (λ c. omega (arith, leaves (c .before .loop2 .inv))) (λ c. omega (arith, leaves (c .before .loop2 .inv)))
-    (λ c. limits (c .before .loop2 .inv) .g1)
     (λ c κs. c .before .before .loop2 .inv .shared .accepted) all-found)
