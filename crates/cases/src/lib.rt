@@ -1,4 +1,6 @@
 // What the programs share that are compared with the simulator: states as bytes, lengths, and lines of output.
+#![tactic(auto)]
+
 pub mod image;
 pub mod input;
 pub mod line;

@@ -1,6 +1,8 @@
 // Reads day files from standard input until it ends, each behind its length in four bytes, low byte first. Prints for each a line
 // `case N`, and then what `pads` prints for it. What to compare with, in the file `stdout`, comes from a simulator of other
 // authorship.
+#![tactic(auto)]
+
 use cases::line;
 use day_file::layout;
 use text::file;

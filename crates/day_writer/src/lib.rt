@@ -1,4 +1,6 @@
 // The writer of a day file, into a lent buffer: the reader's layout the other way round.
+#![tactic(auto)]
+
 ghost use Rattle.std.specs.Prelude.{◌≡◌, ◌+◌, ◌≤◌, length};
 ghost use Rattle.std.proofs.lemmas.List.Edits.{sets};
 ghost use Rattle.machine.specs.Setup.{plain};

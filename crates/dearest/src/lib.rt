@@ -1,5 +1,7 @@
 // The dearest claim for a setup (document 02, d): a list of events in which one process's claim costs the most steps possible, written into
 // a lent buffer.
+#![tactic(auto)]
+
 ghost use Rattle.std.specs.Prelude.{◌≡◌, [], ◌∷◌, suc, ◌+◌, ◌*◌, ◌≤◌, length, replicate};
 ghost use Rattle.std.proofs.lemmas.List.Edits.{sets};
 ghost use Rattle.machine.specs.Kind;

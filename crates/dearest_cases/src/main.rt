@@ -2,6 +2,8 @@
 // first. Makes each call, runs the list that it made from the setup's own state, and prints a line: `dearest`, the answer, the figure, the
 // claim figure of the dearest holder after the run, and what is amiss. What to compare with, in the file `stdout`, comes from a simulator
 // of other authorship.
+#![tactic(auto)]
+
 use cases::{input, line};
 use day_file::layout;
 use machine::{DearestList, State, answer, stage};

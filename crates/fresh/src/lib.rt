@@ -1,4 +1,6 @@
 // What makes a setup's state: the limits of its numbers, its closed names, a counter's fresh value, and the states that a setup gives.
+#![tactic(auto)]
+
 pub mod closed;
 pub mod closing;
 pub mod counter;

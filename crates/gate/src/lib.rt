@@ -1,4 +1,6 @@
 // The gate word and its queue: entering, waiting and leaving. For the runner; a user calls those above it.
+#![tactic(auto)]
+
 ghost use Rattle.std.specs.Prelude.{true, ◌≡◌, ◌≤◌, eqb, length};
 ghost use Rattle.std.proofs.Math.IntN.{suc_ℤ, pred_ℤ};
 ghost use Rattle.machine.specs.Below.{indicator};

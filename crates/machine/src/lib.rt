@@ -1,4 +1,6 @@
 // The records of the machine, document 01's section State. What an event does to them is said in specs/.
+#![tactic(auto)]
+
 pub mod answer;
 pub mod counts;
 pub mod kind;
@@ -10,7 +12,7 @@ pub const NO_NAME: u8 = 255;
 // What a setup is given: processes (document 01: handsets) N, leaves L, segments (rows) in a leaf g, bits in a segment b, and which
 // names are closed (document 02, e: closed pads): bit p of `closed` is 1 where name p is.
 #[repr(C)]
-#[derive(Drop)]
+#[derive(Clone, Copy)]
 pub struct Setup {
     pub processes: u8,
     pub leaves: u8,
@@ -22,7 +24,7 @@ pub struct Setup {
 // One process (document 01: handset). `name` (pad) is 255 for none; since its last request, `steps` counts its getname steps (spent, the
 // claim figure) and `returns` its return operations.
 #[repr(C)]
-#[derive(Drop)]
+#[derive(Clone, Copy)]
 pub struct Process {
     pub stage: u8,
     pub node: u8,
@@ -35,7 +37,7 @@ pub struct Process {
 // The setup, the gate word with its queue, a counter for each node (place 0 is unused), a word for each segment (document 01: row),
 // and the processes.
 #[repr(C)]
-#[derive(Drop)]
+#[derive(Clone, Copy)]
 pub struct State {
     pub setup: Setup,
     pub gate: i8,
@@ -49,7 +51,7 @@ pub struct State {
 // The state after a call, and what it answers: 0 or the number of a refusal. The state comes first: behind the answer it would lie past
 // padding, and be put together aside and copied once more.
 #[repr(C)]
-#[derive(Drop)]
+#[derive(Clone, Copy)]
 pub struct Done {
     pub state: State,
     pub answer: u8,
@@ -57,7 +59,7 @@ pub struct Done {
 
 // What an atomic operation answers, and the word that it leaves.
 #[repr(C)]
-#[derive(Drop)]
+#[derive(Clone, Copy)]
 pub struct Applied {
     pub answer: u8,
     pub word: u8,
@@ -65,7 +67,7 @@ pub struct Applied {
 
 // What one getname step does: it goes left or right to a node, wins a name, moves to a segment, or finds none left
 // (document 01: goes left, goes right, wins a bit, changes row or strays).
-#[derive(Drop)]
+#[derive(Clone, Copy)]
 pub enum ClaimStep {
     Left(u8),
     Right(u8),
@@ -76,7 +78,7 @@ pub enum ClaimStep {
 
 // The gate report: names still free at the gate (document 01: pads still open), and processes queued there.
 #[repr(C)]
-#[derive(Drop)]
+#[derive(Clone, Copy)]
 pub struct Report {
     pub answer: u8,
     pub free: u8,
@@ -85,7 +87,7 @@ pub struct Report {
 
 // One status record (document 01: one line of the roll). `figure` is the sum of the process's getname steps and return operations.
 #[repr(C)]
-#[derive(Drop)]
+#[derive(Clone, Copy)]
 pub struct Status {
     pub stage: u8,
     pub name: u8,
@@ -94,7 +96,7 @@ pub struct Status {
 
 // What a call that fills a lent buffer answers: 0 or the number of a refusal, and how many bytes it wrote.
 #[repr(C)]
-#[derive(Drop)]
+#[derive(Clone, Copy)]
 pub struct Written {
     pub answer: u8,
     pub size: usize,
@@ -102,7 +104,7 @@ pub struct Written {
 
 // What the call of the dearest list answers: 0 or the number of a refusal, the dearest claim's figure, and how many bytes it wrote.
 #[repr(C)]
-#[derive(Drop)]
+#[derive(Clone, Copy)]
 pub struct DearestList {
     pub answer: u8,
     pub figure: u8,

@@ -1,4 +1,6 @@
 // Reads a day file from standard input and prints a line for each event (answer, stage, pad, figure), or only `refused n`.
+#![tactic(auto)]
+
 use libc::{STDERR_FILENO, STDIN_FILENO, STDOUT_FILENO};
 use text::file;
 

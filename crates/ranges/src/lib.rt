@@ -1,3 +1,5 @@
 // Whether a state is in range. For the crates above; a user calls those.
+#![tactic(auto)]
+
 mod counters;
 pub mod range;

@@ -1,4 +1,6 @@
 // The calls on the finish box's state. Each refuses bad input with document 01's number; one that changes the state gives it by value.
+#![tactic(auto)]
+
 pub mod event;
 pub mod list;
 pub mod report;

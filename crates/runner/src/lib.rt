@@ -1,4 +1,6 @@
 // The one runner: it keeps the state in a local, and each event stores at most one process record and one shared place.
+#![tactic(auto)]
+
 mod journal;
 
 ghost use Rattle.std.specs.Prelude.{◌≡◌, true, ◌*◌, ◌%◌, ◌≤◌, length};

@@ -1,3 +1,5 @@
 // The status records (document 01: roll): a lent slice of them, written by one function over covered code.
+#![tactic(auto)]
+
 pub mod fill;
 mod record;

@@ -2,6 +2,8 @@
 // follow, and the bytes that are lent, each in four bytes, low byte first; then those that follow. The rest of the list is 0. Prints a
 // line for each: `write`, the answer, the size, and the figure of the bytes lent, which were 170 before the call. What to compare with,
 // in the file `stdout`, comes from a simulator of other authorship.
+#![tactic(auto)]
+
 use cases::{image, input, line};
 use day_file::layout;
 

@@ -1,4 +1,6 @@
 // The calls for C, behind a prefix. A slice is a pointer and its length.
+#![tactic(auto)]
+
 pub mod files;
 pub mod lists;
 mod narrow;

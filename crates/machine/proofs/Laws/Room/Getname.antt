@@ -12,6 +12,7 @@ use Rattle.machine.specs.Range.{in_range, ProcessRanges}
 use Rattle.machine.specs.Room.{getname_room}
 use Rattle.machine.specs.State.{figure, process_at, counter_at, word_at, fresh_counter, with_counter, with_word, update}
 use Rattle.machine.specs.declared.ClaimStep.{ClaimStep}
+use Rattle.machine.specs.declared.ClaimStep.TheVariants.{NextSegment, Exhausted}
 use Rattle.machine.specs.declared.State.{State}
 use Rattle.machine.proofs.Closed.{closed_word_lem, shut_bit, bit_open}
 use Rattle.machine.proofs.Facts.Tests.{by_cond, same_test}
@@ -75,6 +76,7 @@ module _ (s : State) (p : ℕ) (k : Ranges s) (kp : p < s.setup.processes) (size
       })
       (λ _.
       by_cond InRange (ltb ((process_at s p).segment + 1) s.setup.segments)
+      {x = NextSegment ((process_at s p).segment + 1)} {y = Exhausted}
       (λ e. record { stage = h.stage; node1 = h.node1; node = h.node; segment = ltb-true _ _ e; name = h.name; shown = h.shown })
       (λ _. new_stage 6 (omega arith) h))
 
