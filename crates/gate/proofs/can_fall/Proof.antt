@@ -7,5 +7,5 @@ use Rattle.gate.proofs.can_fall.Tie as tie
 returns : tie.Need-returns
 returns c = rw (to_z-of_z c.ranges.a) (fall_is c.args.a)
 
-pub can-fall-spec : {M : Type 1} → statement M
-can-fall-spec = tie.close (tie.spec returns)
+pub can_fall_spec : {M : Type 1} → statement M
+can_fall_spec = tie.close (tie.spec returns)

@@ -6,16 +6,16 @@ use native.Mathlib.Nat.{le_antisymm}
 use native.Mathlib.Numerals.{add-one}
 use lib.Bits.{bit_or}
 use lib.Dec.{eqb}
-use Rattle.machine.proofs.Rules.{◌≡◌, refl, true, false, not, ◌&&◌, Bool, needs}
+use Rattle.machine.proofs.Rules.{◌≡◌, refl, true, false, not, ◌&&◌, Bool, rules}
 use Rattle.machine.specs.Below.{all_below, indicator}
 use Rattle.machine.specs.Gate.{among}
 use Rattle.gate.proofs.in_queue.Statement.{statement}
 use Rattle.gate.proofs.in_queue.Tie as tie
 
-abbrev invariant-loop : tie.invariant-loop
+abbrev invariant-loop : tie.invariant-loop-i
 invariant-loop queue n p end found₀ i₀ found i = (i ≤ end) × (found ≡ indicator (among queue i p))
 
-abbrev decreases-loop : tie.decreases-loop
+abbrev decreases-loop : tie.decreases-loop-i
 decreases-loop queue n p end found₀ i₀ found i = end - i
 
 -- one place more: s says that no place passed holds p, t that this one does
@@ -30,24 +30,24 @@ not_none : (t : Bool) → not (eqb (indicator t) 0) ≡ t
 not_none true = refl
 not_none false = refl
 
-loop-holds : tie.Need-loop-init invariant-loop decreases-loop
+loop-holds : tie.Need-loop-i-init invariant-loop decreases-loop
 unfolding all_below among
-loop-holds c = (search needs, refl)
+loop-holds c = (search rules, refl)
 
-loop-again : tie.Need-loop-preserved invariant-loop decreases-loop
+loop-again : tie.Need-loop-i-preserved invariant-loop decreases-loop
 unfolding all_below among
-loop-again c = (search needs, simp (add-one, c.before.before.before.loop.invariant.1, c.same.ensures, one_more))
+loop-again c = (search rules, simp (add-one, c.before.before.before.loop-i.invariant.1, c.same-found.ensures, one_more))
 
 returns : tie.Need-returns invariant-loop decreases-loop
-returns c = rw (c.before.loop.invariant.1, le_antisymm c.before.loop.invariant.0 c.loop-test.false) (not_none _)
+returns c = rw (c.before.loop-i.invariant.1, le_antisymm c.before.loop-i.invariant.0 c.loop-i-test.false) (not_none _)
 
-pub in-queue-spec : {M : Type 1} → statement M
-in-queue-spec =
+pub in_queue_spec : {M : Type 1} → statement M
+in_queue_spec =
     tie.close
     (tie.spec invariant-loop decreases-loop
     -- before the loop
     loop-holds
     -- a turn
-    (λ c. search needs) (λ c κs. search needs) (λ c. search needs) (λ c. search needs) loop-again
+    (λ c. search rules) (λ c κs. search rules) (λ c. search rules) (λ c. search rules) loop-again
     -- after the loop
     returns)

@@ -7,5 +7,5 @@ use Rattle.gate.proofs.is_above.Tie as tie
 returns : tie.Need-returns
 returns c = rw (to_z-of_z c.ranges.a) (above_is c.args.a)
 
-pub is-above-spec : {M : Type 1} → statement M
-is-above-spec = tie.close (tie.spec returns)
+pub is_above_spec : {M : Type 1} → statement M
+is_above_spec = tie.close (tie.spec returns)

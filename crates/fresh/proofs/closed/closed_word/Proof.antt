@@ -16,15 +16,15 @@ module _ (c : tie.Start) where
   ends : c.args.r * c.args.setup.bits + c.args.setup.bits ≤ 64
   ends = names_64 c.args.setup c.args.r c.requires.0 c.requires.1
 
-cast-result : tie.Need-overflow-cast-result
+cast-result : tie.Need-overflow_cast-result
 cast-result c =
     let start = c.before.before in
     let s = start.args.setup in
     let low = mod-lt (s.closed / 2 ^ (start.args.r * s.bits)) (pow_pos s.bits) in
     record { fits = omega (arith, c.part.ensures, low, pow_mono {i = s.bits} {j = 8} (limits start).b8) }
 
-pub closed-word-spec : {M : Type 1} → statement M
-closed-word-spec =
+pub closed_word_spec : {M : Type 1} → statement M
+closed_word_spec =
     tie.close
     (tie.spec
     -- the part that is the word's

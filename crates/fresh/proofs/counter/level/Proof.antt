@@ -4,8 +4,8 @@ use Rattle.fresh.proofs.Levels.{level_is, level_small}
 use Rattle.fresh.proofs.counter.level.Statement.{statement}
 use Rattle.fresh.proofs.counter.level.Tie as tie
 
-pub level-spec : {M : Type 1} → statement M
-level-spec =
+pub level_spec : {M : Type 1} → statement M
+level_spec =
     tie.close
     (tie.spec
     -- the place of the node's bits

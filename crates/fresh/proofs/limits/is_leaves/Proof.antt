@@ -4,10 +4,10 @@ use Rattle.machine.proofs.Rules.{tests}
 use Rattle.fresh.proofs.limits.is_leaves.Statement.{statement}
 use Rattle.fresh.proofs.limits.is_leaves.Tie as tie
 
-pub is-leaves-spec : {M : Type 1} → statement M
-is-leaves-spec =
+pub is_leaves_spec : {M : Type 1} → statement M
+is_leaves_spec =
     tie.close
     (tie.spec
-    (λ c. unfold is_leaves in rw c.match.keys1) (λ c. unfold is_leaves in rw c.match.keys2)
-    (λ c. unfold is_leaves in rw c.match.keys3) (λ c. unfold is_leaves in rw c.match.keys4)
-    (λ c. unfold is_leaves in rw c.match.keys5) (λ c. unfold is_leaves in search tests))
+    (λ c. unfold is_leaves in rw c.in-1.is) (λ c. unfold is_leaves in rw c.in-2.is)
+    (λ c. unfold is_leaves in rw c.in-4.is) (λ c. unfold is_leaves in rw c.in-8.is)
+    (λ c. unfold is_leaves in rw c.in-16.is) (λ c. unfold is_leaves in search tests))

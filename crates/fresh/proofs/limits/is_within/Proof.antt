@@ -3,8 +3,8 @@ use Rattle.machine.proofs.Rules.{tests}
 use Rattle.fresh.proofs.limits.is_within.Statement.{statement}
 use Rattle.fresh.proofs.limits.is_within.Tie as tie
 
-pub is-within-spec : {M : Type 1} → statement M
-is-within-spec =
+pub is_within_spec : {M : Type 1} → statement M
+is_within_spec =
     tie.close
     (tie.spec
     -- `n < low`

@@ -7,28 +7,28 @@ use Rattle.fresh.proofs.Counted.{names_open}
 use Rattle.fresh.proofs.limits.open_names.Statement.{statement}
 use Rattle.fresh.proofs.limits.open_names.Tie as tie
 
-returns : tie.Need-returns
+returns : tie.Need-returns-then-setup-eq0
 returns c =
     let named = c.before.before in
     let s = named.before.args.setup in
-    named.names_of.ensures ∙ sym (open_all s c.if1.true 0 (names s))
+    named.names_of-k.ensures ∙ sym (open_all s c.if-setup-eq0.true 0 (names s))
 
-open-of-requires : tie.Need-open-of-requires
+open-of-requires : tie.Need-open_of-requires
 open-of-requires c κs =
     let named = c.before.before in
     let start = named.before in
-    rw named.names_of.ensures
+    rw named.names_of-k.ensures
     ((limits_of start.args.setup start.requires).k64, (closed_of start.args.setup start.requires).inside)
 
-returns-2 : tie.Need-returns-2
+returns-2 : tie.Need-returns
 returns-2 c =
     let named = c.before.before.before in
     let start = named.before in
-    rw (c.open_of.ensures, named.names_of.ensures)
+    rw (c.open_of.ensures, named.names_of-k.ensures)
     (sym (names_open start.args.setup (closed_of start.args.setup start.requires).inside))
 
-pub open-names-spec : {M : Type 1} → statement M
-open-names-spec =
+pub open_names_spec : {M : Type 1} → statement M
+open_names_spec =
     tie.close
     (tie.spec
     (λ c κs. c.requires)

@@ -3,7 +3,7 @@ use Prim.Native.Nat.{ℕ, ◌+◌, ◌-◌, ◌<◌, ◌≤◌}
 use native.Mathlib.Decide.{dec_lt}
 use lib.Dec.{ltb}
 use lib.ListN.{set, replicate}
-use Rattle.machine.proofs.Rules.{◌≡◌, ◌∙◌, sym, ap, cond, refl, arith, needs, lt-ltb, le-ltb}
+use Rattle.machine.proofs.Rules.{◌≡◌, ◌∙◌, sym, ap, cond, refl, arith, rules, lt-ltb, le-ltb}
 use Rattle.machine.specs.Below.{tabulate}
 use Rattle.machine.specs.State.{no_process, fresh_process, fresh_process_at}
 use Rattle.machine.specs.declared.Process.{Process}
@@ -27,39 +27,39 @@ one_more p h k e =
     other j d (yes l) = rw (lt-ltb j p l, lt-ltb j (p + 1) (omega arith)) refl
     other j d (no l) = rw (le-ltb j p (omega (arith, l)), le-ltb j (p + 1) (omega (arith, l, d))) refl
 
-abbrev invariant-loop : tie.invariant-loop
+abbrev invariant-loop : tie.invariant-loop-p
 invariant-loop setup process₀ p₀ process p = (process ≡ tabulate 64 (below p)) × (p ≤ setup.processes)
 
-abbrev decreases-loop : tie.decreases-loop
+abbrev decreases-loop : tie.decreases-loop-p
 decreases-loop setup process₀ p₀ process p = setup.processes - p
 
 -- the process that is stored, below 64
-process-64 : (c : tie.Then1 invariant-loop decreases-loop) → c.before.before.loop.p < 64
+process-64 : (c : tie.In-loop-p invariant-loop decreases-loop) → c.before.before.loop-p.p < 64
 process-64 c =
     let start = c.before.before.before.before in
-    omega (arith, (limits_of start.args.setup start.requires).n64, c.if1.true)
+    omega (arith, (limits_of start.args.setup start.requires).n64, c.loop-p-test.true)
 
-loop-again : tie.Need-loop-preserved invariant-loop decreases-loop
+loop-again : tie.Need-loop-p-preserved invariant-loop decreases-loop
 loop-again c =
-    let at = c.before.before.before.loop in (
-      rw at.invariant.0 (one_more at.p c.fresh_process_lem.result (process-64 c.before) c.fresh_process_lem.ensures),
-      omega (arith, c.before.if1.true),
+    let at = c.before.before.before.loop-p in (
+      rw at.invariant.0 (one_more at.p c.fresh_process.result (process-64 c.before) c.fresh_process.ensures),
+      omega (arith, c.before.loop-p-test.true),
     )
 
 returns : tie.Need-returns invariant-loop decreases-loop
 unfolding fresh_process_at
 returns c =
-    let at = c.before.before.loop in
-    at.invariant.0 ∙ ap (λ (p : ℕ). tabulate 64 (below p)) (omega (arith, at.invariant.1, c.if1.false))
+    let at = c.before.before.loop-p in
+    at.invariant.0 ∙ ap (λ (p : ℕ). tabulate 64 (below p)) (omega (arith, at.invariant.1, c.loop-p-test.false))
 
-pub fresh-processes-spec : {M : Type 1} → statement M
-fresh-processes-spec =
+pub fresh_processes_spec : {M : Type 1} → statement M
+fresh_processes_spec =
     tie.close
     (tie.spec invariant-loop decreases-loop
     -- up to the loop
-    (λ c κs. search needs) (λ c. (rw c.no-process.ensures none_yet, omega arith))
+    (λ c κs. search rules) (λ c. (rw c.no_process-process.ensures none_yet, omega arith))
     -- a turn
-    (λ c κs. search needs) (λ c. omega arith) (λ c. omega (arith, process-64 c.before)) (λ c. process-64 c.before)
+    (λ c κs. search rules) (λ c. omega arith) (λ c. omega (arith, process-64 c.before)) (λ c. process-64 c.before)
     (λ c. omega (arith, process-64 c.before)) (λ c. omega arith) loop-again
     -- after the loop
     returns)

@@ -11,18 +11,18 @@ use Rattle.fresh.proofs.state.partial_state.Statement.{statement}
 use Rattle.fresh.proofs.state.partial_state.Tie as tie
 
 -- the open names, as the code has them
-names-low : (c : tie.After-open-names) → c.open-names.result ≤ 64
-names-low c = let s = c.before.args.setup in omega (arith, open_64 s (limits_of s c.before.requires), c.open-names.ensures)
+names-low : (c : tie.After-open_names-top) → c.open_names-top.result ≤ 64
+names-low c = let s = c.before.args.setup in omega (arith, open_64 s (limits_of s c.before.requires), c.open_names-top.ensures)
 
 returns : tie.Need-returns
 unfolding fresh partial
 returns c =
     let named = c.before.before in
-    let small : named.open-names.result < 2 ^ 7 = omega (arith, names-low named) in
-    rw (to_z_pos w8 small, c.before.partial_counters.ensures, c.fresh-processes.ensures, named.open-names.ensures)
+    let small : named.open_names-top.result < 2 ^ 7 = omega (arith, names-low named) in
+    rw (to_z_pos w8 small, c.before.partial_counters-counters.ensures, c.fresh_processes-process.ensures, named.open_names-top.ensures)
 
-pub partial-state-spec : {M : Type 1} → statement M
-partial-state-spec =
+pub partial_state_spec : {M : Type 1} → statement M
+partial_state_spec =
     tie.close
     (tie.spec
     -- the calls: each asks for an accepted setup
