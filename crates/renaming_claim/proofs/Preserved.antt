@@ -53,7 +53,8 @@ pub list_sound : {M : ℕ} {s : State} → Sound M s → (es : List Event) → (
     → Sound M (after s es)
 unfolding after
 list_sound so [] few = so
-list_sound so (e ∷ es) few = list_sound (event_sound so e (few 1 (omega arith))) es (λ i l. few (suc i) (omega arith))
+list_sound {M} {s} so (e ∷ es) few =
+    list_sound {M = M} {s = (event_done s e).state} (event_sound so e (few 1 (omega arith))) es (λ i l. few (suc i) (omega arith))
 
 admitted_all : (s : State) → admitted s ≤ s.setup.processes
 unfolding admitted

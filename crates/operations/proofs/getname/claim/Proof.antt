@@ -3,12 +3,12 @@ use borrow.Author.Rules.{rules}
 use Rattle.operations.proofs.getname.claim.Statement.{statement}
 use Rattle.operations.proofs.getname.claim.Tie as tie
 
-pub claim-spec : {M : Type 1} → statement M
-claim-spec =
+pub claim_spec : {M : Type 1} → statement M
+claim_spec =
     tie.close
     (tie.spec
     -- the sum, and which variant it is
     (λ c. search rules) (λ c. search rules) (λ c. search rules) (λ c. search rules) (λ c. search rules) (λ c. search rules)
     -- Left, Right, Won, NextSegment, Exhausted
-    (λ c. rw c.before.c.given.1) (λ c. rw c.before.c2.given.1) (λ c. rw c.before.c3.given.1)
-    (λ c. rw c.before.c4.given.1) (λ c. rw c.enum_told.given.1))
+    (λ c. rw c.before.in-Left.is) (λ c. rw c.before.in-Right.is) (λ c. rw c.before.in-Won.is)
+    (λ c. rw c.before.in-NextSegment.is) (λ c. rw c.in-Exhausted.is))

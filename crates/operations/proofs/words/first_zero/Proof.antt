@@ -7,18 +7,18 @@ use Rattle.operations.proofs.Bytes.{zeros_is}
 use Rattle.operations.proofs.words.first_zero.Statement.{statement}
 use Rattle.operations.proofs.words.first_zero.Tie as tie
 
-cast-m : tie.Need-overflow-cast-m
+cast-m : tie.Need-overflow_cast-m
 cast-m c = omega (arith, trailing_le 8 (255 - bit_or c.args.w c.args.x))
 
-returns : tie.Need-returns
+returns : tie.Need-returns-then-m-b
 returns c =
     let a = c.before.args in
-    rw (lt-ltb _ _ c.if1.true) at (zeros_is a.b a.x a.w (omega arith) (omega arith) (omega arith))
+    rw (lt-ltb _ _ c.if-m-b.true) at (zeros_is a.b a.x a.w (omega arith) (omega arith) (omega arith))
 
-returns-2 : tie.Need-returns-2
+returns-2 : tie.Need-returns-else-m-b
 returns-2 c =
     let a = c.before.args in
-    rw (le-ltb _ _ c.if1.false) at (zeros_is a.b a.x a.w (omega arith) (omega arith) (omega arith))
+    rw (le-ltb _ _ c.if-m-b.false) at (zeros_is a.b a.x a.w (omega arith) (omega arith) (omega arith))
 
-pub first-zero-spec : {M : Type 1} → statement M
-first-zero-spec = tie.close (tie.spec cast-m returns returns-2)
+pub first_zero_spec : {M : Type 1} → statement M
+first_zero_spec = tie.close (tie.spec cast-m returns returns-2)

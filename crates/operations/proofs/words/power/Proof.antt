@@ -4,8 +4,8 @@ use borrow.Author.Rules.{rules}
 use Rattle.operations.proofs.words.power.Statement.{statement}
 use Rattle.operations.proofs.words.power.Tie as tie
 
-pub power-spec : {M : Type 1} → statement M
-power-spec =
+pub power_spec : {M : Type 1} → statement M
+power_spec =
     tie.close
     (tie.spec
     (λ c. search rules) (λ c. shifted_is c.args.i c.requires))

@@ -3,7 +3,7 @@
 -- Assumes nothing.
 use Rattle.std.proofs.Common.{ℕ, ◌+◌, ◌-◌, ◌*◌, ◌/◌, ◌%◌, ◌^◌, ◌<◌, ◌≤◌, eqb, leb, get_or, le_antisymm, zero-mul, div-one, add-one, pow_mono}
 use native.Mathlib.Nat.{pow-succ'}
-use Rattle.machine.proofs.Rules.{◌≡◌, ◌∙◌, sym, ap, refl, arith, needs}
+use Rattle.machine.proofs.Rules.{◌≡◌, ◌∙◌, sym, ap, refl, arith, rules}
 use Rattle.machine.specs.Below.{all_below}
 use Rattle.machine.specs.Setup.{names}
 use Rattle.machine.proofs.Facts.Below.{all_same}
@@ -24,10 +24,10 @@ record Going (counters : _) (v n closed rest over i : ℕ) : Type 0 where
   left : rest ≡ closed / 2 ^ (2 * i * n)
   passed : eqb over 0 ≡ all_below i (level_test counters closed v n)
 
-abbrev invariant-loop : tie.invariant-loop
+abbrev invariant-loop : tie.invariant-loop-i
 invariant-loop counters d v n rest₀ over₀ i₀ rest over i = Going counters v n rest₀ rest over i
 
-abbrev decreases-loop : tie.decreases-loop
+abbrev decreases-loop : tie.decreases-loop-i
 decreases-loop counters d v n rest₀ over₀ i₀ rest over i = v - i
 
 module _ (c : tie.Start invariant-loop decreases-loop) where
@@ -40,33 +40,33 @@ module _ (c : tie.Start invariant-loop decreases-loop) where
   nodes : (1 * 2 ^ c.args.d) % 256 ≡ 2 ^ c.args.d
   nodes = shifted_is c.args.d (omega (arith, depth_low))
 
-loop-holds : tie.Need-loop-init invariant-loop decreases-loop
+loop-holds : tie.Need-loop-i-init invariant-loop decreases-loop
 loop-holds c =
     let s = c.before in
     let d = s.args.d in
     record {
-      high = search needs;
+      high = search rules;
       few = rw (nodes s) (pow_mono {i = d} {j = 3} (omega (arith, depth_low s)));
       share = rw c.names_of.ensures (share_32 (names s.args.setup) d (limits s).k64);
       left = sym (ap (λ (x : ℕ). s.args.setup.closed / 2 ^ x) (zero-mul _) ∙ div-one _);
       passed = unfold all_below in refl;
     }
 
-loop-again : tie.Need-loop-preserved invariant-loop decreases-loop
+loop-again : tie.Need-loop-i-preserved invariant-loop decreases-loop
 loop-again c =
     let here = c.before.before.before in
-    let loop = here.before.loop in
+    let loop = here.before.loop-i in
     let going = loop.invariant in
     let s = here.before.before.before.args in
     let n = here.before.before.names_of.result / 2 ^ (s.d + 1) in
     let shut = c.before.before.closed_in.ensures ∙ left_closed s.setup.closed n loop.i going.left in
     let counter = get_or s.counters.now ((1 * 2 ^ s.d) % 256 + loop.i) 0 in
     record {
-      high = omega (arith, here.loop-test.true);
+      high = omega (arith, here.loop-i-test.true);
       few = going.few;
       share = going.share;
       left = left_next s.setup.closed n loop.i going.left;
-      passed = bits_more _ loop.i loop.over _ going.passed (c.is-over.ensures ∙ ap (λ (x : ℕ). leb counter (n - x)) shut);
+      passed = bits_more _ loop.i loop.over _ going.passed (c.is_over-over.ensures ∙ ap (λ (x : ℕ). leb counter (n - x)) shut);
     }
 
 returns : tie.Need-returns invariant-loop decreases-loop
@@ -74,9 +74,9 @@ returns c =
     let s = c.before.before.before in
     let a = s.args in
     let d = a.d in
-    let going = c.before.loop.invariant in
+    let going = c.before.loop-i.invariant in
     let k = limits s in
-    let last = le_antisymm going.high c.loop-test.false ∙ nodes s in
+    let last = le_antisymm going.high c.loop-i-test.false ∙ nodes s in
     let double = doubled_le a.setup.leaves d k.leaves (omega (arith, depth_low s)) s.requires.1 in
     let found = rw (last, nodes s, c.before.before.names_of.ensures) at going.passed in
     found
@@ -84,8 +84,8 @@ returns c =
     (λ i l. level_test_lem a.setup a.counters.now k d i (depth_low s) l
     (omega (arith, l, double, ap (λ (x : ℕ). 2 ^ x) (add-one d), pow-succ' 2 d)))
 
-pub level-in-range-spec : {M : Type 1} → statement M
-level-in-range-spec =
+pub level_in_range_spec : {M : Type 1} → statement M
+level_in_range_spec =
     tie.close
     (tie.spec invariant-loop decreases-loop
     -- how many nodes, and names under each left child
@@ -93,12 +93,12 @@ level-in-range-spec =
     (λ c. omega (arith, depth_low c.before)) (λ c. omega (arith, depth_low c.before))
     loop-holds
     -- a turn
-    (λ c κs. (omega arith, c.before.loop.invariant.share)) (λ c. rw c.closed_in.ensures (closed_le _ _ _))
-    (λ c. omega (arith, c.before.before.loop.invariant.few, c.before.loop-test.true)) (λ c. search needs)
-    (λ c. omega (arith, c.before.before.loop.invariant.few, c.before.loop-test.true)) (λ c κs. search needs)
-    (λ c. search needs) (λ c. omega (arith, c.before.before.before.before.loop.invariant.share))
-    (λ c. search needs) (λ c. omega (arith, c.before.before.before.before.loop.invariant.share))
-    (λ c. omega (arith, c.before.before.before.before.loop.invariant.few, c.before.before.before.loop-test.true))
-    (λ c. omega (arith, c.before.before.before.loop-test.true)) loop-again
+    (λ c κs. (omega arith, c.before.loop-i.invariant.share)) (λ c. rw c.closed_in.ensures (closed_le _ _ _))
+    (λ c. omega (arith, c.before.before.loop-i.invariant.few, c.before.loop-i-test.true)) (λ c. search rules)
+    (λ c. omega (arith, c.before.before.loop-i.invariant.few, c.before.loop-i-test.true)) (λ c κs. search rules)
+    (λ c. search rules) (λ c. omega (arith, c.before.before.before.before.loop-i.invariant.share))
+    (λ c. search rules) (λ c. omega (arith, c.before.before.before.before.loop-i.invariant.share))
+    (λ c. omega (arith, c.before.before.before.before.loop-i.invariant.few, c.before.before.before.loop-i-test.true))
+    (λ c. omega (arith, c.before.before.before.loop-i-test.true)) loop-again
     -- after the loop
     returns)

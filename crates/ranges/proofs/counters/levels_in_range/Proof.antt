@@ -3,7 +3,7 @@
 -- Assumes nothing.
 use Rattle.std.proofs.Common.{ℕ, ◌+◌, ◌-◌, ◌*◌, ◌%◌, ◌^◌, ◌<◌, ◌≤◌, List, le_antisymm, add-one}
 use native.Mathlib.Nat.{pow-succ'}
-use Rattle.machine.proofs.Rules.{◌≡◌, ◌∙◌, sym, ap, refl, true, Bool, ◌&&◌, arith, needs, not-true, not-false}
+use Rattle.machine.proofs.Rules.{◌≡◌, ◌∙◌, sym, ap, refl, true, Bool, ◌&&◌, arith, rules, not-true, not-false}
 use Rattle.machine.specs.Below.{all_below}
 use Rattle.machine.specs.declared.Setup.{Setup}
 use Rattle.machine.proofs.Facts.Below.{all_parts, fails_further}
@@ -21,28 +21,28 @@ record Going (s : Setup) (cs : List ℕ) (d : ℕ) : Type 0 where
   low : 2 ^ d ≤ s.leaves
   passed : all_below (2 ^ d) (node_test s cs) ≡ true
 
-abbrev invariant-loop : tie.invariant-loop
+abbrev invariant-loop : tie.invariant-loop-d
 invariant-loop counters setup d₀ d = Going setup counters d
 
-abbrev decreases-loop : tie.decreases-loop
+abbrev decreases-loop : tie.decreases-loop-d
 decreases-loop counters setup d₀ d = 5 - d
 
 limits : (c : tie.Start invariant-loop decreases-loop) → Limits c.args.setup
 limits c = limits_of c.args.setup c.requires
 
-nodes : (c : tie.At-loop invariant-loop decreases-loop) → (1 * 2 ^ c.loop.d) % 256 ≡ 2 ^ c.loop.d
-nodes c = shifted_is c.loop.d (omega (arith, c.loop.invariant.few))
+nodes : (c : tie.At-loop-d invariant-loop decreases-loop) → (1 * 2 ^ c.loop-d.d) % 256 ≡ 2 ^ c.loop-d.d
+nodes c = shifted_is c.loop-d.d (omega (arith, c.loop-d.invariant.few))
 
 -- a turn: its level lies below L, and with it the levels passed are those before the next
-module _ (c : tie.Then1 invariant-loop decreases-loop) where
-  abbrev turn : tie.At-loop invariant-loop decreases-loop
+module _ (c : tie.In-loop-d invariant-loop decreases-loop) where
+  abbrev turn : tie.At-loop-d invariant-loop decreases-loop
   turn = c.before.before
 
   abbrev d : ℕ
-  d = turn.loop.d
+  d = turn.loop-d.d
 
   inside : 2 ^ d < turn.before.args.setup.leaves
-  inside = rw (nodes turn) at c.if1.true
+  inside = rw (nodes turn) at c.loop-d-test.true
 
   deep : d < 4
   deep = depth_4 turn.before.args.setup.leaves d (leaves_16 (limits turn.before)) inside
@@ -55,39 +55,39 @@ module _ (c : tie.Then1 invariant-loop decreases-loop) where
       let twice : 2 ^ (d + 1) ≡ 2 ^ d + 2 ^ d = omega (arith, ap (λ (x : ℕ). 2 ^ x) (add-one d), pow-succ' 2 d) in
       ap (λ (x : ℕ). all_below x f) twice ∙ all_parts (2 ^ d) (2 ^ d) f
 
-level-fails : tie.Need-returns invariant-loop decreases-loop
+level-fails : tie.Need-returns-then-not-level_in_range invariant-loop decreases-loop
 level-fails c =
     let here = c.before.before in
     let a = (turn here).before.args in
     let f = node_test a.setup a.counters.now in
-    let fails = sym c.before.level-in-range.ensures ∙ not-true _ c.if2.true in
+    let fails = sym c.before.level_in_range.ensures ∙ c.if-not-level_in_range.true in
     sym (fails_further (2 ^ (d here + 1)) a.setup.leaves f (double here)
     (next here f ∙ ap (λ (t : Bool). t && all_below (2 ^ d here) f) fails))
 
-loop-again : tie.Need-loop-preserved invariant-loop decreases-loop
+loop-again : tie.Need-loop-d-preserved invariant-loop decreases-loop
 loop-again c =
     let here = c.before.before in
     let a = (turn here).before.args in
-    let passes = sym c.before.level-in-range.ensures ∙ not-false _ c.if2.false in
+    let passes = sym c.before.level_in_range.ensures ∙ c.if-not-level_in_range.false in
     record {
       few = omega (arith, deep here);
       low = double here;
-      passed = next here (node_test a.setup a.counters.now) ∙ both passes (turn here).loop.invariant.passed;
+      passed = next here (node_test a.setup a.counters.now) ∙ both passes (turn here).loop-d.invariant.passed;
     }
 
-all_pass : tie.Need-returns-2 invariant-loop decreases-loop
+all_pass : tie.Need-returns invariant-loop decreases-loop
 all_pass c =
     let turn = c.before.before in
-    let last = le_antisymm turn.loop.invariant.low (rw (nodes turn) at c.if1.false) in
-    sym (rw last at turn.loop.invariant.passed)
+    let last = le_antisymm turn.loop-d.invariant.low (rw (nodes turn) at c.loop-d-test.false) in
+    sym (rw last at turn.loop-d.invariant.passed)
 
-pub levels-in-range-spec : {M : Type 1} → statement M
-levels-in-range-spec =
+pub levels_in_range_spec : {M : Type 1} → statement M
+levels_in_range_spec =
     tie.close
     (tie.spec invariant-loop decreases-loop
     -- before the loop
-    (λ c. record { few = search needs; low = leaves_1 (limits c); passed = unfold all_below in refl })
-    (λ c. omega (arith, c.loop.invariant.few))
+    (λ c. record { few = search rules; low = leaves_1 (limits c); passed = unfold all_below in refl })
+    (λ c. omega (arith, c.loop-d.invariant.few))
     -- a turn whose level fails
     (λ c κs. (c.before.before.before.requires, inside c)) level-fails
     -- a turn

@@ -2,7 +2,7 @@
 -- 64 falls. The table of places is computed to be the list of the numbers below 64.
 -- Assumes nothing.
 use Rattle.std.proofs.Common.{ℕ, ◌-◌, ◌<◌, ◌≤◌, eqb, List, get_or, le_antisymm}
-use Rattle.machine.proofs.Rules.{◌≡◌, ◌∙◌, ap, refl, ⊎_elim, arith, needs, lt-ltb, le-ltb}
+use Rattle.machine.proofs.Rules.{◌≡◌, ◌∙◌, ap, refl, ⊎_elim, arith, rules, lt-ltb, le-ltb}
 use Rattle.machine.specs.Below.{all_below, tabulate}
 use Rattle.machine.proofs.Facts.Below.{get_or_tabulate}
 use Rattle.ranges.specs.Tests.{past_test}
@@ -14,41 +14,41 @@ use Rattle.ranges.proofs.range.bits_past.Tie as tie
 own-number : (places : List ℕ) → places ≡ tabulate 64 (λ i. i) → (i : ℕ) → i < 64 → get_or places i 0 ≡ i
 own-number places e i l = ap (λ (ps : List ℕ). get_or ps i 0) e ∙ get_or_tabulate 64 (λ j. j) i 0 l
 
-abbrev invariant-loop : tie.invariant-loop
+abbrev invariant-loop : tie.invariant-loop-i
 invariant-loop xs m places bits₀ i₀ bits i = (i ≤ 64) × (eqb bits 0 ≡ all_below i (past_test m xs))
 
-abbrev decreases-loop : tie.decreases-loop
+abbrev decreases-loop : tie.decreases-loop-i
 decreases-loop xs m places bits₀ i₀ bits i = 64 - i
 
-loop-holds : tie.Need-loop-init invariant-loop decreases-loop
+loop-holds : tie.Need-loop-i-init invariant-loop decreases-loop
 unfolding all_below
-loop-holds c = (search needs, refl)
+loop-holds c = (search rules, refl)
 
-loop-again : tie.Need-loop-preserved invariant-loop decreases-loop
+loop-again : tie.Need-loop-i-preserved invariant-loop decreases-loop
 unfolding tabulate
 loop-again c =
     let joined = c.before in
     let turn = joined.before.before in
-    let loop = turn.before.loop in
+    let loop = turn.before.loop-i in
     let a = turn.before.before.args in
-    let place = own-number _ refl loop.i turn.loop-test.true in (
-      search needs,
-      bits_more (past_test a.m a.xs.now) loop.i loop.bits joined.if1.x loop.invariant.1 (⊎_elim
-          (λ w. rw (w.1, lt-ltb loop.i a.m (omega (arith, place, w.0.taken))))
-          (λ w. rw (w.1, le-ltb loop.i a.m (omega (arith, place, w.0.left))))
-          joined.if1.branch),
+    let place = own-number _ refl loop.i turn.loop-i-test.true in (
+      search rules,
+      bits_more (past_test a.m a.xs.now) loop.i loop.bits joined.if-places-i.x-1 loop.invariant.1 (⊎_elim
+          (λ w. rw (w.1, lt-ltb loop.i a.m (omega (arith, place, w.0.true))))
+          (λ w. rw (w.1, le-ltb loop.i a.m (omega (arith, place, w.0.false))))
+          joined.if-places-i.branch),
     )
 
 returns : tie.Need-returns invariant-loop decreases-loop
-returns c = rw (le_antisymm c.before.loop.invariant.0 c.loop-test.false) at c.before.loop.invariant.1
+returns c = rw (le_antisymm c.before.loop-i.invariant.0 c.loop-i-test.false) at c.before.loop-i.invariant.1
 
-pub bits-past-spec : {M : Type 1} → statement M
-bits-past-spec =
+pub bits_past_spec : {M : Type 1} → statement M
+bits_past_spec =
     tie.close
     (tie.spec invariant-loop decreases-loop
     -- before the loop
     loop-holds
     -- a turn
-    (λ c. search needs) (λ c. search needs) (λ c. search needs) (λ c. search needs) loop-again
+    (λ c. search rules) (λ c. search rules) (λ c. search rules) (λ c. search rules) loop-again
     -- after the loop
     returns)

@@ -1,7 +1,7 @@
 -- `entry_in_range` meets its contract: each return is one failed test of the list, and past three of them the queue decides.
 -- Assumes nothing.
 use Rattle.std.proofs.Common.{List, to_z-of_z, w8, to_z, of_z}
-use Rattle.machine.proofs.Rules.{◌≡◌, ◌∙◌, sym, Bool, needs, not-true, eq-eqb, le-leb, not-false, ne_eqb, lt-leb}
+use Rattle.machine.proofs.Rules.{◌≡◌, ◌∙◌, sym, Bool, rules, not-true, eq-eqb, le-leb, not-false, ne_eqb, lt-leb}
 use Rattle.machine.specs.Range.{gate_in_range, entry_tests}
 use Rattle.machine.specs.Setup.{open_names, setup_answer}
 use Rattle.machine.proofs.Ranges.{Limits, limits_of}
@@ -15,10 +15,10 @@ signed : (c : tie.Start) → to_z w8 (of_z w8 c.args.gate) ≡ c.args.gate
 signed c = to_z-of_z c.fits.gate
 
 -- past the first test the setup is accepted
-accepted : (c : tie.Else1) → setup_answer c.before.before.args.setup ≡ 0
-accepted c = sym c.before.setup_answer_lem.ensures ∙ c.if1.left
+accepted : (c : tie.Else-setup_answer-ne-ACCEPTED) → setup_answer c.before.before.args.setup ≡ 0
+accepted c = sym c.before.setup_answer.ensures ∙ c.if-setup_answer-ne-ACCEPTED.false
 
-limits : (c : tie.Else1) → Limits c.before.before.args.setup
+limits : (c : tie.Else-setup_answer-ne-ACCEPTED) → Limits c.before.before.args.setup
 limits c = limits_of c.before.before.args.setup (accepted c)
 
 -- the tests, in their list
@@ -26,34 +26,34 @@ abbrev tests : tie.Start → List Bool
 tests c = let a = c.args in entry_tests a.setup a.gate a.queued a.queue.now
 
 -- what the test of the gate word found
-gate : (c : tie.After-gate-in-range) → let a = c.before.before.before.before.args in
-    c.gate-in-range.result ≡ gate_in_range (open_names a.setup) a.gate
-gate c = rw (c.before.open-names.ensures, signed c.before.before.before.before) at c.gate-in-range.ensures
+gate : (c : tie.After-gate_in_range) → let a = c.before.before.before.before.args in
+    c.gate_in_range.result ≡ gate_in_range (open_names a.setup) a.gate
+gate c = rw (c.before.open_names.ensures, signed c.before.before.before.before) at c.gate_in_range.ensures
 
-refused : tie.Need-returns
-refused c = sym (one_fails (tests c.before.before) 0 (rw c.before.setup_answer_lem.ensures at (ne_eqb _ _ c.if1.taken)))
+refused : tie.Need-returns-then-setup_answer-ne-ACCEPTED
+refused c = sym (one_fails (tests c.before.before) 0 (rw c.before.setup_answer.ensures at (ne_eqb _ _ c.if-setup_answer-ne-ACCEPTED.true)))
 
-gate-fails : tie.Need-returns-2
+gate-fails : tie.Need-returns-then-not-gate_in_range
 gate-fails c =
-    sym (one_fails (tests c.before.before.before.before.before) 1 (sym (gate c.before) ∙ not-true _ c.if2.taken))
+    sym (one_fails (tests c.before.before.before.before.before) 1 (sym (gate c.before) ∙ c.if-not-gate_in_range.true))
 
-queue_long : tie.Need-returns-3
-queue_long c = sym (one_fails (tests c.before.before.before.before.before.before) 2 (lt-leb _ _ c.if3.taken))
+queue_long : tie.Need-returns-then-queued-gt64
+queue_long c = sym (one_fails (tests c.before.before.before.before.before.before) 2 (lt-leb _ _ c.if-queued-gt64.true))
 
-queue-decides : tie.Need-returns-4
+queue-decides : tie.Need-returns
 queue-decides c =
     let gated = c.before.before in
     let setup = eq-eqb _ 0 (accepted gated.before.before.before) in
-    let word = sym (gate gated.before) ∙ not-false _ gated.if2.left in
-    passes setup (passes word (passes (le-leb _ _ c.before.if3.left) (decides c.queue-in-range.ensures)))
+    let word = sym (gate gated.before) ∙ gated.if-not-gate_in_range.false in
+    passes setup (passes word (passes (le-leb _ _ c.before.if-queued-gt64.false) (decides c.queue_in_range.ensures)))
 
-pub entry-in-range-spec : {M : Type 1} → statement M
-entry-in-range-spec =
+pub entry_in_range_spec : {M : Type 1} → statement M
+entry_in_range_spec =
     tie.close
     (tie.spec
     -- the setup
-    (λ c κs. search needs) refused
+    (λ c κs. search rules) refused
     -- the gate word
-    (λ c κs. accepted c) (λ c κs. rw c.open-names.ensures (open_64 _ (limits c.before))) gate-fails
+    (λ c κs. accepted c) (λ c κs. rw c.open_names.ensures (open_64 _ (limits c.before))) gate-fails
     -- the queue: its length, and its places
     queue_long (λ c κs. (limits c.before.before.before.before).n1) queue-decides)

@@ -3,5 +3,5 @@ use Rattle.machine.proofs.Rules.{tests}
 use Rattle.ranges.proofs.range.greater.Statement.{statement}
 use Rattle.ranges.proofs.range.greater.Tie as tie
 
-pub greater-spec : {M : Type 1} → statement M
-greater-spec = tie.close (tie.spec (λ c. search tests) (λ c. search tests))
+pub greater_spec : {M : Type 1} → statement M
+greater_spec = tie.close (tie.spec (λ c. search tests) (λ c. search tests))

@@ -1,38 +1,38 @@
 -- `greatest` meets its contract. The loop keeps that top is the greatest of the numbers passed; what is left of e falls.
 -- Assumes nothing.
 use Rattle.std.proofs.Common.{◌-◌, ◌≤◌, le_antisymm}
-use Rattle.machine.proofs.Rules.{⊎_elim, needs}
+use Rattle.machine.proofs.Rules.{⊎_elim, rules}
 use Rattle.ranges.specs.Tests.{Greatest}
 use Rattle.ranges.proofs.Bounds.{of_none, larger, no_larger}
 use Rattle.ranges.proofs.range.greatest.Statement.{statement}
 use Rattle.ranges.proofs.range.greatest.Tie as tie
 
-abbrev invariant-loop : tie.invariant-loop
+abbrev invariant-loop : tie.invariant-loop-i
 invariant-loop xs e end top₀ i₀ top i = (i ≤ e) × Greatest xs i top
 
-abbrev decreases-loop : tie.decreases-loop
+abbrev decreases-loop : tie.decreases-loop-i
 decreases-loop xs e end top₀ i₀ top i = end - i
 
-loop-again : tie.Need-loop-preserved invariant-loop decreases-loop
+loop-again : tie.Need-loop-i-preserved invariant-loop decreases-loop
 loop-again c =
-    let greatest = c.before.before.before.loop.invariant.1 in (
-      search needs,
+    let greatest = c.before.before.before.loop-i.invariant.1 in (
+      search rules,
       ⊎_elim
-          (λ w. rw w.1 (larger w.0.taken greatest))
-          (λ w. rw w.1 (no_larger w.0.left greatest))
-          c.if1.branch,
+          (λ w. rw w.1 (larger w.0.true greatest))
+          (λ w. rw w.1 (no_larger w.0.false greatest))
+          c.if-x-top.branch,
     )
 
 returns : tie.Need-returns invariant-loop decreases-loop
-returns c = rw (le_antisymm c.before.loop.invariant.0 c.loop-test.false) at c.before.loop.invariant.1
+returns c = rw (le_antisymm c.before.loop-i.invariant.0 c.loop-i-test.false) at c.before.loop-i.invariant.1
 
-pub greatest-spec : {M : Type 1} → statement M
-greatest-spec =
+pub greatest_spec : {M : Type 1} → statement M
+greatest_spec =
     tie.close
     (tie.spec invariant-loop decreases-loop
     -- before the loop
-    (λ c. (search needs, of_none))
+    (λ c. (search rules, of_none))
     -- a turn
-    (λ c. search needs) (λ c. search needs) (λ c. search needs) loop-again
+    (λ c. search rules) (λ c. search rules) (λ c. search rules) loop-again
     -- after the loop
     returns)

@@ -3,5 +3,5 @@ use Rattle.machine.proofs.Rules.{tests}
 use Rattle.ranges.proofs.range.looked_at.Statement.{statement}
 use Rattle.ranges.proofs.range.looked_at.Tie as tie
 
-pub looked-at-spec : {M : Type 1} → statement M
-looked-at-spec = tie.close (tie.spec (λ c. search tests) (λ c. search tests) (λ c. search tests))
+pub looked_at_spec : {M : Type 1} → statement M
+looked_at_spec = tie.close (tie.spec (λ c. search tests) (λ c. search tests) (λ c. search tests))

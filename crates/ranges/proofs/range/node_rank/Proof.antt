@@ -1,7 +1,7 @@
 -- `node_rank` meets its contract: node 0 wraps to 255, which no limit reaches, and any other node less 1 is below as the node is.
 -- Assumes nothing.
 use Rattle.std.proofs.Common.{ℕ, ◌+◌, ◌-◌, ◌*◌, ◌%◌, ◌<◌, ◌≤◌, ltb, leb}
-use Rattle.machine.proofs.Rules.{◌≡◌, ◌&&◌, arith, needs, leb-true, ltb-true, le-leb, lt-ltb}
+use Rattle.machine.proofs.Rules.{◌≡◌, ◌&&◌, arith, rules, leb-true, ltb-true, le-leb, lt-ltb}
 use Rattle.machine.proofs.Facts.Tests.{both, and_left, and_right, same_test}
 use Rattle.ranges.proofs.range.node_rank.Statement.{statement}
 use Rattle.ranges.proofs.range.node_rank.Tie as tie
@@ -17,8 +17,8 @@ ranked v r v8 r8 e l l1 l16 =
     let node = ltb-true v (2 * l) (and_right (leb 1 v) (ltb v (2 * l)) t) in
     le-leb r (2 * l - 2) (omega (arith, node1, node)))
 
-pub node-rank-spec : {M : Type 1} → statement M
-node-rank-spec =
+pub node_rank_spec : {M : Type 1} → statement M
+node_rank_spec =
     tie.close
-    (tie.spec (λ c κs. search needs)
-    (λ c. ranked c.before.args.v _ (search needs) (search needs) c.wrapping-sub-u8.ensures))
+    (tie.spec (λ c κs. search rules)
+    (λ c. ranked c.before.args.v _ (search rules) (search rules) c.wrapping_sub_u8.ensures))

@@ -5,7 +5,7 @@
 use Rattle.std.proofs.Common.{ℕ, ◌+◌, ◌-◌, ◌*◌, ◌<◌, ◌≤◌, eqb, le_refl, le_antisymm, add-one, to_z-of_z, w8}
 use native.Mathlib.Decide.{ℕ_discrete}
 use Rattle.machine.proofs.Rules.{◌≡◌, ◌∙◌, sym, ap, refl, Bool, true, false, false≢true, cond, ◌&&◌}
-use Rattle.machine.proofs.Rules.{arith, needs, not-true, not-false, eq-eqb, ne_eqb, eqb-true}
+use Rattle.machine.proofs.Rules.{arith, rules, not-true, not-false, eq-eqb, ne_eqb, eqb-true}
 use Rattle.machine.specs.Below.{all_below}
 use Rattle.machine.specs.Check.{all_of}
 use Rattle.machine.specs.Range.{counter_test, word_test, closed_test, process_test, entry_tests, in_range}
@@ -50,17 +50,17 @@ record Going (s : State) (end stage node segment name over i : ℕ) : Type 0 whe
   high : i ≤ end
   passed : found s.setup stage node segment name over ≡ all_below i (at s)
 
-abbrev invariant-loop : tie.invariant-loop
+abbrev invariant-loop : tie.invariant-loop-j
 invariant-loop s last shut₀ j₀ shut j = Looked s last shut j
 
-abbrev decreases-loop : tie.decreases-loop
+abbrev decreases-loop : tie.decreases-loop-j
 decreases-loop s last shut₀ j₀ shut j = last - j
 
-abbrev invariant-loop2 : tie.invariant-loop2
+abbrev invariant-loop2 : tie.invariant-loop-i
 invariant-loop2 s last shut j end stage₀ node₀ segment₀ name₀ over₀ i₀ stage node segment name over i =
     Going s end stage node segment name over i
 
-abbrev decreases-loop2 : tie.decreases-loop2
+abbrev decreases-loop2 : tie.decreases-loop-i
 decreases-loop2 s last shut j end stage₀ node₀ segment₀ name₀ over₀ i₀ stage node segment name over i = end - i
 
 abbrev sharedOf : State → Bool
@@ -93,11 +93,11 @@ module _ (s : State) where
       }
 
 -- what the call found, with the gate word as the code holds it
-shared-found : (c : tie.After-shared-in-range invariant-loop decreases-loop invariant-loop2 decreases-loop2)
-    → c.shared-in-range.result ≡ sharedOf c.before.before.before.before.before.before.before.args.t1
+shared-found : (c : tie.After-shared_in_range invariant-loop decreases-loop invariant-loop2 decreases-loop2)
+    → c.shared_in_range.result ≡ sharedOf c.before.before.before.before.before.before.before.args.t1
 shared-found c =
     let s = c.before.before.before.before.before.before.before.args.t1 in
-    rw (to_z-of_z {w = w8} {z = s.gate} (search needs)) at c.shared-in-range.ensures
+    rw (to_z-of_z {w = w8} {z = s.gate} (search rules)) at c.shared_in_range.ensures
 
 -- a process looked at is one of N, and of 64
 looked-in : {s : State} {last shut j : ℕ} → Looked s last shut j → last ≤ s.setup.processes
@@ -114,8 +114,8 @@ limits {s} g = limits_of s.setup g.shared.accepted
 leaves : {s : State} {end a b c d e i : ℕ} → Going s end a b c d e i → (1 ≤ s.setup.leaves) × (s.setup.leaves ≤ 16)
 leaves g = (leaves_1 (limits g), leaves_16 (limits g))
 
-in-64 : (c : tie.In-loop2 invariant-loop decreases-loop invariant-loop2 decreases-loop2) → c.before.loop2.i < 64
-in-64 c = omega (arith, c.before.loop2.invariant.all, (limits c.before.loop2.invariant).n64, c.loop2-test.true)
+in-64 : (c : tie.In-loop-i invariant-loop decreases-loop invariant-loop2 decreases-loop2) → c.before.loop-i.i < 64
+in-64 c = omega (arith, c.before.loop-i.invariant.all, (limits c.before.loop-i.invariant).n64, c.loop-i-test.true)
 
 both-sides : {a b x y : Bool} → a ≡ x → b ≡ y → (a && b) ≡ (x && y)
 both-sides e f = rw (e, f) refl
@@ -125,10 +125,10 @@ unfolding all_below
 all-next i f = ap (λ (x : ℕ). all_below x f) (add-one i)
 
 -- the state, from the first loop on and from the second
-abbrev looked-at-state : tie.At-loop invariant-loop decreases-loop invariant-loop2 decreases-loop2 → State
+abbrev looked-at-state : tie.At-loop-j invariant-loop decreases-loop invariant-loop2 decreases-loop2 → State
 looked-at-state c = c.before.before.before.before.before.before.before.before.before.before.before.args.t1
 
-abbrev state : tie.At-loop2 invariant-loop decreases-loop invariant-loop2 decreases-loop2 → State
+abbrev state : tie.At-loop-i invariant-loop decreases-loop invariant-loop2 decreases-loop2 → State
 state c = looked-at-state c.before.before.before
 
 -- some name is closed, so that a process is out of range
@@ -156,76 +156,76 @@ all_shown {s} {last} {shut} {j} g l z = go (ℕ_discrete s.setup.closed 0)
         let every : last ≡ s.setup.processes = rw (ne_eqb s.setup.closed 0 e) at g.few in
         rw (sym every, sym (le_antisymm g.high l)) (sym g.passed ∙ eq-eqb shut 0 z)
 
-shared-out : tie.Need-returns invariant-loop decreases-loop invariant-loop2 decreases-loop2
+shared-out : tie.Need-returns-then-not-shared_in_range invariant-loop decreases-loop invariant-loop2 decreases-loop2
 shared-out c =
     let called = c.before.before in
     let s = called.before.before.before.before.before.before.before.args.t1 in
-    c.unfit.ensures ∙ shared-refuses s (sym (shared-found called) ∙ not-true _ c.before.if1.true)
+    c.unfit.ensures ∙ shared-refuses s (sym (shared-found called) ∙ c.before.if-not-shared_in_range.true)
 
-loop-holds : tie.Need-loop-init invariant-loop decreases-loop invariant-loop2 decreases-loop2
+loop-holds : tie.Need-loop-j-init invariant-loop decreases-loop invariant-loop2 decreases-loop2
 unfolding all_below
 loop-holds c =
     let passed = c.before.before in
     let s = passed.before.before.before.before.before.before.before.before.args.t1 in
     record {
-      shared = shared-leaves s (sym (shared-found passed.before) ∙ not-false _ passed.if1.false);
-      few = c.looked-at.ensures;
-      high = search needs;
+      shared = shared-leaves s (sym (shared-found passed.before) ∙ passed.if-not-shared_in_range.false);
+      few = c.looked_at-last.ensures;
+      high = search rules;
       passed = refl;
     }
 
-loop-again : tie.Need-loop-preserved invariant-loop decreases-loop invariant-loop2 decreases-loop2
+loop-again : tie.Need-loop-j-preserved invariant-loop decreases-loop invariant-loop2 decreases-loop2
 loop-again c =
     let turn = c.before.before in
-    let g = turn.loop.invariant in
+    let g = turn.loop-j.invariant in
     record {
       shared = g.shared;
       few = g.few;
-      high = omega (arith, c.before.loop-test.true);
-      passed = bits_more _ turn.loop.j turn.loop.shut _ g.passed (ap (λ (x : ℕ). eqb x 0) c.shut_bit.ensures);
+      high = omega (arith, c.before.loop-j-test.true);
+      passed = bits_more _ turn.loop-j.j turn.loop-j.shut _ g.passed (ap (λ (x : ℕ). eqb x 0) c.shut_bit-shut.ensures);
     }
 
-closed-out : tie.Need-returns-2 invariant-loop decreases-loop invariant-loop2 decreases-loop2
+closed-out : tie.Need-returns-then-shut-ne0 invariant-loop decreases-loop invariant-loop2 decreases-loop2
 closed-out c =
     let after = c.before.before in
-    let g = after.before.loop.invariant in
-    c.unfit2.ensures
+    let g = after.before.loop-j.invariant in
+    c.unfit-then-shut-ne0.ensures
     ∙ shut-fails g.shared (omega (arith, g.high, looked-in g))
-    (sym g.passed ∙ ne_eqb after.before.loop.shut 0 c.before.if2.true)
+    (sym g.passed ∙ ne_eqb after.before.loop-j.shut 0 c.before.if-shut-ne0.true)
 
-loop2-holds : tie.Need-loop2-init invariant-loop decreases-loop invariant-loop2 decreases-loop2
+loop2-holds : tie.Need-loop-i-init invariant-loop decreases-loop invariant-loop2 decreases-loop2
 unfolding all_below
 loop2-holds c =
-    let g = c.before.before.loop.invariant in
+    let g = c.before.before.loop-j.invariant in
     record {
       shared = g.shared;
       all = refl;
-      shown = all_shown g c.before.loop-test.false c.if2.false;
-      high = search needs;
+      shown = all_shown g c.before.loop-j-test.false c.if-shut-ne0.false;
+      high = search rules;
       passed = found_none (looked-at-state c.before.before).setup;
     }
 
-loop2-again : tie.Need-loop2-preserved invariant-loop decreases-loop invariant-loop2 decreases-loop2
+loop2-again : tie.Need-loop-i-preserved invariant-loop decreases-loop invariant-loop2 decreases-loop2
 loop2-again c =
     let named = c.before.before in
     let noded = named.before.before.before in
     let turn = noded.before.before.before in
-    let loop = turn.loop2 in
+    let loop = turn.loop-i in
     let g = loop.invariant in
     let s = state turn in
     let i = loop.i in
     let h = process_at s i in
-    let inside = noded.before.before.loop2-test.true in
-    let node = noded.node-rank.ensures s.setup.leaves (leaves g).0 (leaves g).1 in
+    let inside = noded.before.before.loop-i-test.true in
+    let node = noded.node_rank.ensures s.setup.leaves (leaves g).0 (leaves g).1 in
     let shown = all_at s.setup.processes (isShown s) g.shown i (omega (arith, inside, g.all)) in
-    let v = noded.node-rank.result in
-    let x = c.Sum-over.result in
-    let name = named.name-rank.ensures in
-    let tests = process_tests_lem s.setup g.shared.accepted h v x name.0 name.1 shown node c.Sum-over.ensures in
+    let v = noded.node_rank.result in
+    let x = c.sum_over-over.result in
+    let name = named.name_rank.ensures in
+    let tests = process_tests_lem s.setup g.shared.accepted h v x name.0 name.1 shown node c.sum_over-over.ensures in
     let more = one_more s.setup loop.stage loop.node loop.segment loop.name loop.over h.stage v h.segment
-    named.name-rank.result x
-    noded.before.greater.ensures named.before.before.greater2.ensures named.before.greater3.ensures
-    c.before.greater4.ensures in
+    named.name_rank.result x
+    noded.before.greater-stage.ensures named.before.before.greater-node.ensures named.before.greater-segment.ensures
+    c.before.greater-name.ensures in
     record {
       shared = g.shared;
       all = g.all;
@@ -234,40 +234,40 @@ loop2-again c =
       passed = more ∙ both-sides tests g.passed ∙ sym (all-next i (at s));
     }
 
-all_found : tie.Need-returns-3 invariant-loop decreases-loop invariant-loop2 decreases-loop2
+all_found : tie.Need-returns invariant-loop decreases-loop invariant-loop2 decreases-loop2
 all_found c =
     let after = c.before.before in
-    let g = after.before.loop2.invariant in
-    let last = le_antisymm g.high after.loop2-test.false ∙ g.all in
+    let g = after.before.loop-i.invariant in
+    let last = le_antisymm g.high after.loop-i-test.false ∙ g.all in
     c.beside.ensures ∙ g.passed ∙ ap (λ (x : ℕ). all_below x (at (state after.before))) last ∙ g.shared.rest
 
-pub survey-spec : {M : Type 1} → statement M
-survey-spec =
+pub survey_spec : {M : Type 1} → statement M
+survey_spec =
     tie.close
     (tie.spec invariant-loop decreases-loop invariant-loop2 decreases-loop2
     -- what processes share
-    (λ c κs. search needs) (λ c κs. search needs) shared-out
+    (λ c κs. search rules) (λ c κs. search rules) shared-out
     -- the names
-    (λ c κs. search needs) loop-holds
-    (λ c. omega (arith, looked-64 c.before.loop.invariant, c.loop-test.true))
-    (λ c. omega (arith, looked-64 c.before.loop.invariant, c.loop-test.true))
-    (λ c κs. search needs) (λ c. omega (arith, looked-64 c.before.before.loop.invariant, c.before.loop-test.true))
-    (λ c. omega (arith, c.before.loop-test.true)) loop-again
-    (λ c κs. search needs) closed-out
+    (λ c κs. search rules) loop-holds
+    (λ c. omega (arith, looked-64 c.before.loop-j.invariant, c.loop-j-test.true))
+    (λ c. omega (arith, looked-64 c.before.loop-j.invariant, c.loop-j-test.true))
+    (λ c κs. search rules) (λ c. omega (arith, looked-64 c.before.before.loop-j.invariant, c.before.loop-j-test.true))
+    (λ c. omega (arith, c.before.loop-j-test.true)) loop-again
+    (λ c κs. search rules) closed-out
     -- up to the processes
-    (λ c. search needs) loop2-holds
+    (λ c. search rules) loop2-holds
     -- stage, node, segment and name of a process
-    (λ c. omega (arith, in-64 (c))) (λ c. omega (arith, in-64 (c))) (λ c κs. search needs)
-    (λ c. omega (arith, in-64 c.before)) (λ c. omega (arith, in-64 c.before)) (λ c κs. search needs) (λ c κs. search needs)
-    (λ c. omega (arith, in-64 c.before.before.before)) (λ c. omega (arith, in-64 c.before.before.before)) (λ c κs. search needs)
+    (λ c. omega (arith, in-64 (c))) (λ c. omega (arith, in-64 (c))) (λ c κs. search rules)
+    (λ c. omega (arith, in-64 c.before)) (λ c. omega (arith, in-64 c.before)) (λ c κs. search rules) (λ c κs. search rules)
+    (λ c. omega (arith, in-64 c.before.before.before)) (λ c. omega (arith, in-64 c.before.before.before)) (λ c κs. search rules)
     (λ c. omega (arith, in-64 c.before.before.before.before)) (λ c. omega (arith, in-64 c.before.before.before.before))
-    (λ c κs. search needs) (λ c κs. search needs)
+    (λ c κs. search rules) (λ c κs. search rules)
     -- and its sum
     (λ c. omega (arith, in-64 c.before.before.before.before.before.before))
     (λ c. omega (arith, in-64 c.before.before.before.before.before.before))
     (λ c. omega (arith, in-64 c.before.before.before.before.before.before))
-    (λ c. omega (arith, in-64 c.before.before.before.before.before.before)) (λ c κs. search needs)
+    (λ c. omega (arith, in-64 c.before.before.before.before.before.before)) (λ c κs. search rules)
     (λ c. omega (arith, in-64 c.before.before.before.before.before.before.before))
-    (λ c. omega (arith, c.before.before.before.before.before.before.before.loop2-test.true)) loop2-again
+    (λ c. omega (arith, c.before.before.before.before.before.before.before.loop-i-test.true)) loop2-again
     -- after the loop
-    (λ c κs. c.before.before.loop2.invariant.shared.accepted) all_found)
+    (λ c κs. c.before.before.loop-i.invariant.shared.accepted) all_found)

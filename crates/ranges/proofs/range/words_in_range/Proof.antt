@@ -8,10 +8,10 @@ use Rattle.ranges.proofs.range.words_in_range.Tie as tie
 
 -- the setup's limits
 limits : (c : tie.Start) → Limits c.args.setup
-limits c = limits_of c.args.setup c.pre
+limits c = limits_of c.args.setup c.requires
 
-pub words-in-range-spec : {M : Type 1} → statement M
-words-in-range-spec =
+pub words_in_range_spec : {M : Type 1} → statement M
+words_in_range_spec =
     tie.close
     (tie.spec
     -- the greatest word of b bits
@@ -20,4 +20,4 @@ words-in-range-spec =
     (λ c. omega (arith, words_64 (limits c.before.before))) (λ c κs. words_64 (limits c.before.before))
     (λ c.
     let filled = c.before.before in
-    sym (words_decide filled.before.args.setup filled.mask.ensures c.greatest.ensures)))
+    sym (words_decide filled.before.args.setup filled.mask-full.ensures c.greatest.ensures)))
