@@ -4,8 +4,8 @@ use Rattle.machine.specs.Setup.{log2}
 use Rattle.dearest.proofs.height_of.Statement.{statement}
 use Rattle.dearest.proofs.height_of.Tie as tie
 
-pub height-of-spec : {M : Type 1} → statement M
-height-of-spec =
+pub height_of_spec : {M : Type 1} → statement M
+height_of_spec =
     tie.close
     (tie.spec
     (λ c. unfold log2 in search tests) (λ c. unfold log2 in search tests) (λ c. unfold log2 in search tests)

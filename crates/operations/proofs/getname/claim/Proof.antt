@@ -10,5 +10,5 @@ claim_spec =
     -- the sum, and which variant it is
     (λ c. search rules) (λ c. search rules) (λ c. search rules) (λ c. search rules) (λ c. search rules) (λ c. search rules)
     -- Left, Right, Won, NextSegment, Exhausted
-    (λ c. rw c.before.in-Left.is) (λ c. rw c.before.in-Right.is) (λ c. rw c.before.in-Won.is)
-    (λ c. rw c.before.in-NextSegment.is) (λ c. rw c.in-Exhausted.is))
+    (λ c. rw c.in-Left.is) (λ c. rw c.in-Right.is) (λ c. rw c.in-Won.is)
+    (λ c. rw c.in-NextSegment.is) (λ c. rw c.in-Exhausted.is))

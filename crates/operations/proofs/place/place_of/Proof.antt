@@ -28,4 +28,4 @@ place_of_spec =
     (λ c. at_kind _ _ c.before.in-1.is (unfold place_of in c.step_place.ensures))
     (λ c. at_kind _ _ c.before.before.in-2.is (unfold place_of in search tests))
     -- any other kind
-    (λ c. sym (kind_above _ _ _ (omega (arith, c.match.rest.0.0.1, c.match.rest.0.1, c.match.rest.1)))))
+    (λ c. sym (kind_above _ _ _ (omega arith))))

@@ -38,4 +38,4 @@ step_place_spec =
     (λ c. at_stage _ _ c.before.before.before.before.in-5.is (unfold step_place in search tests))
     -- EXHAUSTED, and any other
     (λ c. at_stage _ _ c.in-6.is (unfold step_place in search tests))
-    (λ c. sym (stage_above _ _ _ (above_six _ c.match.rest))))
+    (λ c. sym (stage_above _ _ _ (omega arith))))

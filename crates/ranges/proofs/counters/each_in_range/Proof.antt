@@ -35,9 +35,9 @@ loop-again : tie.Need-loop-v-preserved invariant-loop decreases-loop
 loop-again c = (
   search rules,
   one_more c.before.before.before.loop-v.invariant.1 (λ h. ⊎_elim
-      (λ w. sym w.2.ensures ∙ w.3.false)
-      (λ w. absurd (omega (arith, w.false)))
-      c.if-v-setup.branch),
+      (λ w. sym w.counter_in_range.ensures ∙ w.if-not-counter_in_range.false)
+      (λ w. absurd (omega (arith, w.if-v-setup.false)))
+      c.if-v-setup.branch-raw),
 )
 
 returns-2 : tie.Need-returns invariant-loop decreases-loop

@@ -33,10 +33,10 @@ loop-again c =
     let a = turn.before.before.args in
     let place = own-number _ refl loop.i turn.loop-i-test.true in (
       search rules,
-      bits_more (past_test a.m a.xs.now) loop.i loop.bits joined.if-places-i.x-1 loop.invariant.1 (⊎_elim
-          (λ w. rw (w.1, lt-ltb loop.i a.m (omega (arith, place, w.0.true))))
-          (λ w. rw (w.1, le-ltb loop.i a.m (omega (arith, place, w.0.false))))
-          joined.if-places-i.branch),
+      bits_more (past_test a.m a.xs.now) loop.i loop.bits joined.if-places-i.x loop.invariant.1 (⊎_elim
+          (λ w. rw (w.x-is, lt-ltb loop.i a.m (omega (arith, place, w.if-places-i.true))))
+          (λ w. rw (w.x-is, le-ltb loop.i a.m (omega (arith, place, w.if-places-i.false))))
+          joined.if-places-i.branch-raw),
     )
 
 returns : tie.Need-returns invariant-loop decreases-loop

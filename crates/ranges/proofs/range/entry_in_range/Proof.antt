@@ -12,7 +12,7 @@ use Rattle.ranges.proofs.range.entry_in_range.Tie as tie
 
 -- the gate word, as the code holds it
 signed : (c : tie.Start) → to_z w8 (of_z w8 c.args.gate) ≡ c.args.gate
-signed c = to_z-of_z c.fits.gate
+signed c = to_z-of_z c.ranges.gate
 
 -- past the first test the setup is accepted
 accepted : (c : tie.Else-setup_answer-ne-ACCEPTED) → setup_answer c.before.before.args.setup ≡ 0

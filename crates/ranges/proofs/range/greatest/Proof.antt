@@ -18,9 +18,9 @@ loop-again c =
     let greatest = c.before.before.before.loop-i.invariant.1 in (
       search rules,
       ⊎_elim
-          (λ w. rw w.1 (larger w.0.true greatest))
-          (λ w. rw w.1 (no_larger w.0.false greatest))
-          c.if-x-top.branch,
+          (λ w. rw w.top-is (larger w.if-x-top.true greatest))
+          (λ w. rw w.top-is (no_larger w.if-x-top.false greatest))
+          c.if-x-top.branch-raw,
     )
 
 returns : tie.Need-returns invariant-loop decreases-loop

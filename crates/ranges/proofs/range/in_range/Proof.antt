@@ -5,4 +5,4 @@ use Rattle.ranges.proofs.range.in_range.Tie as tie
 
 pub in_range_spec : {M : Type 1} → statement M
 in_range_spec =
-    tie.close (tie.spec (λ c κs. search rules) (λ c κs. search rules) (λ c. c.fits2.ensures ∙ c.before.survey.ensures))
+    tie.close (tie.spec (λ c κs. search rules) (λ c κs. search rules) (λ c. c.fits.ensures ∙ c.survey.ensures))

@@ -94,9 +94,9 @@ module _ (s : State) where
 
 -- what the call found, with the gate word as the code holds it
 shared-found : (c : tie.After-shared_in_range invariant-loop decreases-loop invariant-loop2 decreases-loop2)
-    → c.shared_in_range.result ≡ sharedOf c.before.before.before.before.before.before.before.args.t1
+    → c.shared_in_range.result ≡ sharedOf c.args.s
 shared-found c =
-    let s = c.before.before.before.before.before.before.before.args.t1 in
+    let s = c.args.s in
     rw (to_z-of_z {w = w8} {z = s.gate} (search rules)) at c.shared_in_range.ensures
 
 -- a process looked at is one of N, and of 64
@@ -126,7 +126,7 @@ all-next i f = ap (λ (x : ℕ). all_below x f) (add-one i)
 
 -- the state, from the first loop on and from the second
 abbrev looked-at-state : tie.At-loop-j invariant-loop decreases-loop invariant-loop2 decreases-loop2 → State
-looked-at-state c = c.before.before.before.before.before.before.before.before.before.before.before.args.t1
+looked-at-state c = c.args.s
 
 abbrev state : tie.At-loop-i invariant-loop decreases-loop invariant-loop2 decreases-loop2 → State
 state c = looked-at-state c.before.before.before
@@ -159,14 +159,14 @@ all_shown {s} {last} {shut} {j} g l z = go (ℕ_discrete s.setup.closed 0)
 shared-out : tie.Need-returns-then-not-shared_in_range invariant-loop decreases-loop invariant-loop2 decreases-loop2
 shared-out c =
     let called = c.before.before in
-    let s = called.before.before.before.before.before.before.before.args.t1 in
+    let s = called.args.s in
     c.unfit.ensures ∙ shared-refuses s (sym (shared-found called) ∙ c.before.if-not-shared_in_range.true)
 
 loop-holds : tie.Need-loop-j-init invariant-loop decreases-loop invariant-loop2 decreases-loop2
 unfolding all_below
 loop-holds c =
     let passed = c.before.before in
-    let s = passed.before.before.before.before.before.before.before.before.args.t1 in
+    let s = passed.args.s in
     record {
       shared = shared-leaves s (sym (shared-found passed.before) ∙ passed.if-not-shared_in_range.false);
       few = c.looked_at-last.ensures;
@@ -257,7 +257,8 @@ survey_spec =
     -- up to the processes
     (λ c. search rules) loop2-holds
     -- stage, node, segment and name of a process
-    (λ c. omega (arith, in-64 (c))) (λ c. omega (arith, in-64 (c))) (λ c κs. search rules)
+    (λ c. omega (arith, c.before.loop-i.invariant.all, (limits c.before.loop-i.invariant).n64, c.loop-i-test.true))
+    (λ c. omega (arith, c.before.loop-i.invariant.all, (limits c.before.loop-i.invariant).n64, c.loop-i-test.true)) (λ c κs. search rules)
     (λ c. omega (arith, in-64 c.before)) (λ c. omega (arith, in-64 c.before)) (λ c κs. search rules) (λ c κs. search rules)
     (λ c. omega (arith, in-64 c.before.before.before)) (λ c. omega (arith, in-64 c.before.before.before)) (λ c κs. search rules)
     (λ c. omega (arith, in-64 c.before.before.before.before)) (λ c. omega (arith, in-64 c.before.before.before.before))

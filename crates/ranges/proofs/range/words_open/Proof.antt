@@ -2,7 +2,7 @@
 -- where no word passed has a closed bit set; what is left of the words falls.
 -- Assumes nothing.
 use Rattle.std.proofs.Common.{ℕ, ◌+◌, ◌-◌, ◌*◌, ◌/◌, ◌%◌, ◌^◌, ◌<◌, ◌≤◌, eqb, get_or, mod-lt, suc-mul, le_antisymm, zero-mul, div-one, add-one, pow_pos, pow_mono, shr-shr}
-use lib.bits-1.{bit_and}
+use lib.Bits.{bit_and}
 use Rattle.machine.proofs.Rules.{◌≡◌, ◌∙◌, sym, ap, refl, arith, rules}
 use Rattle.machine.specs.Below.{all_below}
 use Rattle.machine.specs.Closed.{closed_word}
@@ -16,7 +16,7 @@ use Rattle.ranges.proofs.range.words_open.Tie as tie
 
 abbrev invariant-loop : tie.invariant-loop-r
 invariant-loop words setup count rest₀ bits₀ r₀ rest bits r =
-    (r ≤ count) × ((rest ≡ setup.closed / 2 ^ (r * setup.bits-1)) × (eqb bits 0 ≡ all_below r (closed_test setup words)))
+    (r ≤ count) × ((rest ≡ setup.closed / 2 ^ (r * setup.bits)) × (eqb bits 0 ≡ all_below r (closed_test setup words)))
 
 abbrev decreases-loop : tie.decreases-loop-r
 decreases-loop words setup count rest₀ bits₀ r₀ rest bits r = count - r
@@ -42,30 +42,30 @@ loop-holds : tie.Need-loop-r-init invariant-loop decreases-loop
 unfolding all_below
 loop-holds c =
     let s = c.before.before.before.args.setup in
-    (search rules, (sym (ap (λ (x : ℕ). s.closed / 2 ^ x) (zero-mul s.bits-1) ∙ div-one s.closed), refl))
+    (search rules, (sym (ap (λ (x : ℕ). s.closed / 2 ^ x) (zero-mul s.bits) ∙ div-one s.closed), refl))
 
 -- the bits of one word fit a byte
 cast-shut : tie.Need-overflow_cast-shut invariant-loop decreases-loop
 cast-shut c =
     let s = start c.before in
-    let b = s.args.setup.bits-1 in
+    let b = s.args.setup.bits in
     let low = mod-lt c.before.before.loop-r.rest (pow_pos b) in
     record { fits = omega (arith, c.lowest-shut.ensures, low, pow_mono {i = b} {j = 8} (limits s).b8) }
 
 loop-again : tie.Need-loop-r-preserved invariant-loop decreases-loop
 unfolding closed_word
 loop-again c =
-    let here = c.before.before.before in
+    let here = c.before.before.before.before in
     let loop = here.before.loop-r in
     let a = (start here).args in
     let s = a.setup in
     let r = loop.r in
-    let next : (r + 1) * s.bits-1 ≡ r * s.bits-1 + s.bits-1 = ap (λ (x : ℕ). x * s.bits-1) (add-one r) ∙ suc-mul r s.bits-1 in
-    let rest = ap (λ (x : ℕ). x / 2 ^ s.bits-1) loop.invariant.1.0 ∙ shr-shr s.closed (r * s.bits-1) s.bits-1
+    let next : (r + 1) * s.bits ≡ r * s.bits + s.bits = ap (λ (x : ℕ). x * s.bits) (add-one r) ∙ suc-mul r s.bits in
+    let rest = ap (λ (x : ℕ). x / 2 ^ s.bits) loop.invariant.1.0 ∙ shr-shr s.closed (r * s.bits) s.bits
     ∙ ap (λ (x : ℕ). s.closed / 2 ^ x) (sym next) in
     let shut = ap (λ (x : ℕ). eqb (bit_and (get_or a.words.now r 0) x) 0)
-    (c.before.before.lowest-shut.ensures ∙ ap (λ (x : ℕ). x % 2 ^ s.bits-1) loop.invariant.1.0) in
-    let bits = bits_more (closed_test s a.words.now) r loop.bits-1 _ loop.invariant.1.1 (shut ∙ shut_test_lem s a.words.now r) in
+    (c.before.before.before.lowest-shut.ensures ∙ ap (λ (x : ℕ). x % 2 ^ s.bits) loop.invariant.1.0) in
+    let bits = bits_more (closed_test s a.words.now) r loop.bits _ loop.invariant.1.1 (shut ∙ shut_test_lem s a.words.now r) in
     (omega (arith, here.loop-r-test.true), (rest, bits))
 
 pub words_open_spec : {M : Type 1} → statement M
@@ -77,8 +77,8 @@ words_open_spec =
     -- before the loop
     (λ c. omega (arith, count-64 c.before.before.before)) (λ c. omega (arith, count-64 c.before.before.before)) loop-holds
     -- a turn
-    (λ c κs. omega (arith, (limits (start c)).b8)) cast-shut (λ c. word-64 c.before)
-    (λ c. search rules) (λ c. omega (arith, (limits (start c.before.before.before)).b8))
-    (λ c. omega (arith, word-64 c.before.before.before)) (λ c. omega (arith, c.before.before.before.loop-r-test.true)) loop-again
+    (λ c κs. omega (arith, (limits (start c)).b8)) cast-shut (λ c. word-64 c.before.before)
+    (λ c. search rules) (λ c. omega (arith, (limits (start c.before.before.before.before)).b8))
+    (λ c. omega (arith, word-64 c.before.before.before.before)) (λ c. omega (arith, c.before.before.before.before.loop-r-test.true)) loop-again
     -- after the loop
     (λ c. rw (le_antisymm c.before.loop-r.invariant.0 c.loop-r-test.false) at c.before.loop-r.invariant.1.1))

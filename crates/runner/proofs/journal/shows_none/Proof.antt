@@ -3,11 +3,11 @@ use Rattle.machine.proofs.Rules.{tests}
 use Rattle.runner.proofs.journal.shows_none.Statement.{statement}
 use Rattle.runner.proofs.journal.shows_none.Tie as tie
 
-pub shows-none-spec : {M : Type 1} → statement M
-shows-none-spec =
+pub shows_none_spec : {M : Type 1} → statement M
+shows_none_spec =
     tie.close
     (tie.spec
     -- KIND, STRANGER, BROKEN_STATE
-    (λ c. rw c.match.keys1) (λ c. rw c.match.keys2) (λ c. rw c.match.keys3)
+    (λ c. rw c.in-12.is) (λ c. rw c.in-6.is) (λ c. rw c.in-15.is)
     -- any other
     (λ c. search tests))

@@ -13,9 +13,9 @@ use denote.Slice.{mut_slice_at}
 use denote.Triple.Walked.{stay_slice, Goes-slice}
 use Rattle.machine.proofs.Rules.{not, true, false, Bool, le-ltb}
 use Rattle.machine.specs.Reports.{status_answer, status_records}
-use Rattle.status.proofs.record.count as count
-use Rattle.status.proofs.record.processes as processes
-use Rattle.status.proofs.record.status_answer as answer
+use Rattle.status.proofs.record.count.n as count
+use Rattle.status.proofs.record.processes-list as processes
+use Rattle.status.proofs.record.status_answer-answer as answer
 use Rattle.status.proofs.record.status_of as status-of
 use Rattle.status.proofs.fill.fill_status as fill'
 use Rattle.status.proofs.fill.fill_status.Code as code
@@ -85,27 +85,27 @@ module _ {M : Type 1} (Z : World M) where
       Left = after_block 𝓤 H (after_seq 𝓤 H (Wp 𝓤 H 𝓣.C 𝓣.Λ E code.Mir.t-10 (at_return 𝓤 H E Post)) (at_return 𝓤 H E Post))
 
       ends : status_answer state list.now ≡ 0 → length state.process ≡ 64 → (X : SProp 𝓤)
-          → Goes Z p bs Left state.setup.processes X
+          → Goes Z p bs Left state.setup.processes-list X
       unfolding after_turn
       ends ok sized X =
-          qed W (At Z p bs state.setup.processes) ∵ exec ! 𝓣.C 𝓣.Λ E code.Mir.turn-1 (any_q (after_turn 𝓤 H X Left)) $
+          qed W (At Z p bs state.setup.processes-list) ∵ exec ! 𝓣.C 𝓣.Λ E code.Mir.turn-1 (any_q (after_turn 𝓤 H X Left)) $
           -- while i < n
-          sets ! 10 (equals ! (bin ! (var ! 6 refl) (var ! 4 refl) tt) (ap vbool (le-ltb state.setup.processes _ (omega arith))))
+          sets ! 10 (equals ! (bin ! (var ! 6 refl) (var ! 4 refl) tt) (ap vbool (le-ltb state.setup.processes-list _ (omega arith))))
           refl (tt, tt) $
           leaves_loop ! (var ! 10 refl) $ exec ! 𝓣.C 𝓣.Λ E code.Mir.t-10 (at_ret E Post) $
           -- 0; the list of processes is a local again, and the borrow is closed
           sets ! 0 (of_opd ! (lit ! tt)) refl (tt, record { fits = lit< tt }) $
           move ! (5 ∷ []) $ together ! processes state.process (l₅ Z p bs) 64 sized (λ _. move ! (places 1 5) $
           move ! (places 19 4) $
-          closes_slice ! tt R list.now (wrote Z p bs state.setup.processes) same list.ref_ptr.0 list.ref_ptr.1 $
+          closes_slice ! tt R list.now (wrote Z p bs state.setup.processes-list) same list.ref_ptr.0 list.ref_ptr.1 $
           move ! (places 3 19) $ returns ! (look ! 0 refl) $
           freed ! E (some _ ∷ some _ ∷ some _ ∷ none ∷ some _ ∷ some _ ∷ some _ ∷ none ∷ none ∷ none ∷ some _ ∷ []) $
-          by ! (exits 0 (wrote Z p bs state.setup.processes) (lit< tt) same (sym ok, accepted_list state list.now ok)))
+          by ! (exits 0 (wrote Z p bs state.setup.processes-list) (lit< tt) same (sym ok, accepted_list state list.now ok)))
         where
-          same : length (wrote Z p bs state.setup.processes) ≡ length list.now
+          same : length (wrote Z p bs state.setup.processes-list) ≡ length list.now
           same =
               let fits = accepted state list.now ok in
-              written_long Z p bs sized fits.0 fits.1 state.setup.processes (omega arith)
+              written_long Z p bs sized fits.0 fits.1 state.setup.processes-list (omega arith)
 
       body : Sq W (locals E (none ∷ some (machine p) ∷ some (slice p) ∷ []) ++ ‵ (leave E) ∷ lent list.now)
           (runs 𝓣.C 𝓣.Λ E code.Mir.t-1 (at_ret E Post))
@@ -129,7 +129,7 @@ module _ {M : Type 1} (Z : World M) where
           skips ! $ exec ! 𝓣.C 𝓣.Λ E code.Mir.t-5 (at_ret E Post) $
           -- let n = record::count(state);
           asks ! 𝓣 (count.clauses 𝓤 H A mem run) known.counts (state, tt) (machine p ∷ [], tt) (states.makes 𝓤 H A W, tt) (good, tt)
-          tt (id⊢ 𝓤 _) (and_then ! (var ! 1 refl) (no_more !)) (λ w n ws₁ is-n. heard ! (n ≡ state.setup.processes) (λ same-n.
+          tt (id⊢ 𝓤 _) (and_then ! (var ! 1 refl) (no_more !)) (λ w n ws₁ is-n. heard ! (n ≡ state.setup.processes-list) (λ same-n.
           land ! (from ! (stop !)) (init ! 4 refl (((number w64).lawful 𝓤 H A W).typed n _ is-n).0) $
           becomes ! 4 refl (ap only is-n.0 ∙ ap (λ (k : ℕ). vint w64 k) same-n) $
           -- let list = record::processes(state);
@@ -171,9 +171,9 @@ module _ {M : Type 1} (Z : World M) where
       (λ κs qs bounds a g are. via 𝓤 _ (fst∗ 𝓤 _ (emp 𝓤))
       (walk (record { κ = κs.0; q = qs.0; state = a.0; list = a.1.0; good = are.0; room = are.1.0.0.1 }) known)))
 
-pub fill-status-spec : {M : Type 1} → fill'.Statement.statement M
+pub fill_status_spec : {M : Type 1} → fill'.Statement.statement M
 unfolding code.routine tables_of
-fill-status-spec 𝓤 𝓛 𝓜 𝓡 =
+fill_status_spec 𝓤 𝓛 𝓜 𝓡 =
     entered 𝓤 𝓛.H (Fill 𝓛 𝓜.mem 𝓡.run)
     (tables 𝓤 𝓛.H 𝓜 𝓡 code.env).C (tables 𝓤 𝓛.H 𝓜 𝓡 code.env).Λ fill'.Key.name code.function (code.unfolded 𝓤 𝓛.H 𝓜 𝓡)
     (meets (world_of 𝓛 𝓜 𝓡 code.env) (record {

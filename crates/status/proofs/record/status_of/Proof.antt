@@ -2,5 +2,5 @@
 use Rattle.status.proofs.record.status_of.Statement.{statement}
 use Rattle.status.proofs.record.status_of.Tie as tie
 
-pub status-of-spec : {M : Type 1} → statement M
-status-of-spec = tie.close (tie.spec (λ c κs. c.requires) (λ c. rw c.figure.ensures))
+pub status_of_spec : {M : Type 1} → statement M
+status_of_spec = tie.close (tie.spec (λ c κs. c.requires) (λ c. rw c.figure.ensures))

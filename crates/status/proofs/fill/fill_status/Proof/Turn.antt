@@ -40,7 +40,7 @@ module _ {M : Type 1} (Z : World M) (p : Passed) (bs : Blocks (code.function).lo
   open p use {κ, q, state, list}
 
   abbrev n : ℕ
-  n = state.setup.processes
+  n = state.setup.processes-list
 
   -- the block of the list of processes
   abbrev pub l₅ : ℕ
