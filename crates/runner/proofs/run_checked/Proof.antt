@@ -100,22 +100,22 @@ met c =
     let t = turn (knew c.before) in
     let s = here (round (knew c.before)) in
     let e = sym c.before.place_of.ensures in
-    elim c.match-place_of.branch
-    [ in-Own w ↦ stored_as t w.t-is w.x-is w.answer-is (own t (e ∙ w.in-Own.is))
-    | in-Gate w ↦
-        stored_as t w.t-is w.x-is w.answer-is
-        (gate t _ _ _ _ (e ∙ w.in-Gate.is) (to_z-of_z {w = w8} {z = s.gate} (search rules))
-        (to_z-of_z {w = w8} {z = w.enter-m.result.gate} (search rules)) w.enter-m.ensures.0 w.enter-m.ensures.1)
-    | in-Queue w ↦ stored_as t w.t-is w.x-is w.answer-is (queue t (e ∙ w.in-Queue.is) w.wait-x.ensures)
-    | in-Counter w ↦ stored_as t w.t-is w.x-is w.answer-is (counter t (e ∙ w.in-Counter.is) w.descend-m.ensures)
-    | in-Segment w ↦ stored_as t w.t-is w.x-is w.answer-is (segment t (e ∙ w.in-Segment.is) w.probe-m.ensures)
-    | in-Bit w ↦ stored_as t w.t-is w.x-is w.answer-is (bit t (e ∙ w.in-Bit.is) w.give_back-m.ensures)
-    | in-Parent w ↦ stored_as t w.t-is w.x-is w.answer-is (parent t (e ∙ w.in-Parent.is) w.climb-m.ensures)
-    | in-Root w ↦
-        stored_as t w.t-is w.x-is w.answer-is
-        (root t _ _ _ _ (e ∙ w.in-Root.is) (to_z-of_z {w = w8} {z = s.gate} (search rules))
-        (to_z-of_z {w = w8} {z = w.leave-m.result.gate} (search rules))
-        (rw w.open_names-top.ensures at w.leave-m.ensures.0) (rw w.open_names-top.ensures at w.leave-m.ensures.1))
+    elim c.match-place_of.branch [
+      | in-Own w ↦ stored_as t w.t-is w.x-is w.answer-is (own t (e ∙ w.in-Own.is))
+      | in-Gate w ↦
+          stored_as t w.t-is w.x-is w.answer-is
+          (gate t _ _ _ _ (e ∙ w.in-Gate.is) (to_z-of_z {w = w8} {z = s.gate} (search rules))
+          (to_z-of_z {w = w8} {z = w.enter-m.result.gate} (search rules)) w.enter-m.ensures.0 w.enter-m.ensures.1)
+      | in-Queue w ↦ stored_as t w.t-is w.x-is w.answer-is (queue t (e ∙ w.in-Queue.is) w.wait-x.ensures)
+      | in-Counter w ↦ stored_as t w.t-is w.x-is w.answer-is (counter t (e ∙ w.in-Counter.is) w.descend-m.ensures)
+      | in-Segment w ↦ stored_as t w.t-is w.x-is w.answer-is (segment t (e ∙ w.in-Segment.is) w.probe-m.ensures)
+      | in-Bit w ↦ stored_as t w.t-is w.x-is w.answer-is (bit t (e ∙ w.in-Bit.is) w.give_back-m.ensures)
+      | in-Parent w ↦ stored_as t w.t-is w.x-is w.answer-is (parent t (e ∙ w.in-Parent.is) w.climb-m.ensures)
+      | in-Root w ↦
+          stored_as t w.t-is w.x-is w.answer-is
+          (root t _ _ _ _ (e ∙ w.in-Root.is) (to_z-of_z {w = w8} {z = s.gate} (search rules))
+          (to_z-of_z {w = w8} {z = w.leave-m.result.gate} (search rules))
+          (rw w.open_names-top.ensures at w.leave-m.ensures.0) (rw w.open_names-top.ensures at w.leave-m.ensures.1))
     ]
 
 -- the entry has its four bytes, and the record's figure is one

@@ -1,30 +1,30 @@
 -- `run` meets its contract: one check after another, in their order, then the runner. Assumes nothing.
-use Rattle.machine.proofs.Rules.{◌∙◌, sym, arith, needs, not-true, not-false, tests}
+use Rattle.machine.proofs.Rules.{◌∙◌, sym, arith, rules, not-true, not-false, tests}
 use Rattle.machine.specs.Lists.{run, run_journal}
 use Rattle.renaming.proofs.list.run.Statement.{statement}
 use Rattle.renaming.proofs.list.run.Tie as tie
 
-short : tie.Need-returns-2
+short : tie.Need-returns-then-journal-events
 unfolding run run_journal
 short c = search tests
 
-returns-3 : tie.Need-returns-3
+returns-3 : tie.Need-returns-then-not-in_range
 unfolding run run_journal
-returns-3 c = search (tests, sym c.before.in_range_lem.ensures ∙ not-true _ c.if3.true)
+returns-3 c = search (tests, sym c.before.in_range.ensures ∙ c.if-not-in_range.true)
 
-run-checked-requires : tie.Need-run-checked-requires
+run-checked-requires : tie.Need-run_checked-after-requires
 run-checked-requires c κs =
     let long = c.before.before.before in
-    let even = long.before.if1.false in
-    (sym c.before.before.in_range_lem.ensures ∙ not-false _ c.before.if3.false, (even, omega (arith, even, long.if2.false)))
+    let even = long.before.if-events-ne0.false in
+    (sym c.before.before.in_range.ensures ∙ c.before.if-not-in_range.false, (even, omega (arith, even, long.if-journal-events.false)))
 
-returns-4 : tie.Need-returns-4
+returns-4 : tie.Need-returns
 unfolding run run_journal
 returns-4 c =
     let ran = c.before.before in
     let past = ran.before.before in
-    let ranged = sym past.before.in_range_lem.ensures ∙ not-false _ past.if3.false in
-    search (tests, ran.run-checked.ensures.0, ran.run-checked.ensures.1, ranged)
+    let ranged = sym past.before.in_range.ensures ∙ past.if-not-in_range.false in
+    search (tests, ran.run_checked-after.ensures.0, ran.run_checked-after.ensures.1, ranged)
 
 pub run_spec : {M : Type 1} → statement M
 run_spec =
@@ -33,8 +33,8 @@ run_spec =
     -- an odd list
     (λ c. unfold run run_journal in search tests)
     -- a short journal
-    (λ c. search needs) short
+    (λ c. search rules) short
     -- a broken state
-    (λ c κs. search needs) returns-3
+    (λ c κs. search rules) returns-3
     -- the run
-    run-checked-requires (λ c. search needs) returns-4)
+    run-checked-requires (λ c. search rules) returns-4)

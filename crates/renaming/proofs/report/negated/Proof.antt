@@ -4,11 +4,11 @@ use Rattle.renaming.proofs.Signs.{zero_minus, neg_fits}
 use Rattle.renaming.proofs.report.negated.Statement.{statement}
 use Rattle.renaming.proofs.report.negated.Tie as tie
 
-sub-result : tie.Need-overflow-sub-result
+sub-result : tie.Need-overflow_sub-result
 sub-result c = simp (to_z-of_z c.ranges.a, zero_minus) (neg_fits c.args.a c.requires)
 
 returns : tie.Need-returns
 returns c = simp (to_z-of_z c.ranges.a, zero_minus, to_z-of_z (neg_fits c.args.a c.requires))
 
-pub negated-spec : {M : Type 1} → statement M
-negated-spec = tie.close (tie.spec sub-result returns)
+pub negated_spec : {M : Type 1} → statement M
+negated_spec = tie.close (tie.spec sub-result returns)

@@ -2,7 +2,7 @@
 -- both the list is the number that it closes, and the rest is the setup's. Assumes nothing.
 use mathlib.Core.List.{List}
 use Prim.Native.Nat.{ℕ}
-use Rattle.machine.proofs.Rules.{◌≡◌, ◌∙◌, sym, ap, arith, needs, not-true, not-false}
+use Rattle.machine.proofs.Rules.{◌≡◌, ◌∙◌, sym, ap, arith, rules, not-true, not-false}
 use Rattle.machine.specs.Closed.{lists_below}
 use Rattle.machine.specs.Setup.{numbered, given, plain, names, setup_answer}
 use Rattle.machine.specs.State.{done, blank, partial_setup}
@@ -25,73 +25,73 @@ module _ (c : tie.Start) where
   listed = given c.args.n c.args.l c.args.g c.args.b list
 
 -- what the four numbers answer
-module _ (c : tie.After-setup-answer) where
+module _ (c : tie.After-setup_answer-first) where
   abbrev start : tie.Start
   start = c.before.before.before
 
-  answer_is : c.setup_answer_lem.result ≡ setup_answer (four start)
-  answer_is = c.setup_answer_lem.ensures ∙ ap setup_answer c.before.setup-of.ensures
+  answer_is : c.setup_answer-first.result ≡ setup_answer (four start)
+  answer_is = c.setup_answer-first.ensures ∙ ap setup_answer c.before.setup_of-numbers.ensures
 
-numbers-refused : tie.Need-returns
+numbers-refused : tie.Need-returns-then-first-ne-ACCEPTED
 numbers-refused c =
     let told = c.before.before in
     let s = start told in
-    let fails : setup_answer (four s) ≡ 0 → ⊥ = λ z. c.before.if1.true (answer_is told ∙ z) in
+    let fails : setup_answer (four s) ≡ 0 → ⊥ = λ z. c.before.if-first-ne-ACCEPTED.true (answer_is told ∙ z) in
     let same = numbers_fail s.args.n s.args.l s.args.g s.args.b (list s) fails in
     c.refused.ensures
     ∙ ap (λ (a : ℕ). done a blank) (answer_is told ∙ sym same)
     ∙ sym (setup-refused (listed s) (λ z. fails (sym same ∙ z)))
 
 -- past them: the names, and whether those of the list are below k
-module _ (c : tie.Else1) where
+module _ (c : tie.Else-first-ne-ACCEPTED) where
   accepted : setup_answer (four (start c.before)) ≡ 0
-  accepted = sym (answer_is c.before) ∙ c.if1.false
+  accepted = sym (answer_is c.before) ∙ c.if-first-ne-ACCEPTED.false
 
-module _ (c : tie.After-are-below) where
-  abbrev told : tie.After-setup-answer
+module _ (c : tie.After-are_below) where
+  abbrev told : tie.After-setup_answer-first
   told = c.before.before.before
 
-  names-are : c.before.names_of.result ≡ names (four (start told))
-  names-are = c.before.names_of.ensures ∙ ap (λ (s : Setup). names s) told.before.setup-of.ensures
+  names-are : c.before.names_of-k.result ≡ names (four (start told))
+  names-are = c.before.names_of-k.ensures ∙ ap (λ (s : Setup). names s) told.before.setup_of-numbers.ensures
 
-  below-is : c.are-below.result ≡ lists_below (names (four (start told))) (list (start told))
-  below-is = c.are-below.ensures ∙ ap (λ (k : ℕ). lists_below k (list (start told))) names-are
+  below-is : c.are_below.result ≡ lists_below (names (four (start told))) (list (start told))
+  below-is = c.are_below.ensures ∙ ap (λ (k : ℕ). lists_below k (list (start told))) names-are
 
-list-refused : tie.Need-returns-2
+list-refused : tie.Need-returns-then-not-are_below
 list-refused c =
     let here = c.before.before in
     let s = start (told here) in
-    let fails = sym (below-is here) ∙ not-true _ c.before.if2.true in
+    let fails = sym (below-is here) ∙ c.before.if-not-are_below.true in
     let is = list_fails s.args.n s.args.l s.args.g s.args.b (list s) (accepted here.before.before) fails in
-    c.refused2.ensures
+    c.refused-then-not-are_below.ensures
     ∙ ap (λ (a : ℕ). done a blank) (sym is)
     ∙ sym (setup-refused (listed s) (λ z. omega (arith, is, z)))
 
-closed-of-requires : tie.Need-closed-of-requires
+closed-of-requires : tie.Need-closed_of-requires
 closed-of-requires c κs =
     let here = c.before in
     let s = start (told here) in
     let four-accepted = accepted here.before.before in (
       omega (arith, names-are here, (limits_of (four s) four-accepted).k64),
-      sym here.are-below.ensures ∙ not-false _ c.if2.false,
+      sym here.are_below.ensures ∙ c.if-not-are_below.false,
     )
 
-returns-3 : tie.Need-returns-3
+returns-3 : tie.Need-returns
 returns-3 c =
     let read = c.before.before in
     let s = start (told read.before.before) in
     let a = s.args in
-    let is : c.before.setup-of2.result ≡ listed s
-    = c.before.setup-of2.ensures ∙ ap (numbered a.n a.l a.g a.b) read.closed_of.ensures in
+    let is : c.before.setup_of-setup.result ≡ listed s
+    = c.before.setup_of-setup.ensures ∙ ap (numbered a.n a.l a.g a.b) read.closed_of.ensures in
     c.made.ensures ∙ ap (λ (x : Setup). partial_setup x 15) is ∙ every_counter (listed s)
 
-pub closed-setup-spec : {M : Type 1} → statement M
-closed-setup-spec =
+pub closed_setup_spec : {M : Type 1} → statement M
+closed_setup_spec =
     tie.close
     (tie.spec
     -- the four numbers
-    (λ c κs. search needs) (λ c κs. search needs) (λ c κs. search needs) numbers-refused
+    (λ c κs. search rules) (λ c κs. search rules) (λ c κs. search rules) numbers-refused
     -- the names of the list
-    (λ c κs. sym c.before.setup_answer_lem.ensures ∙ c.if1.false) (λ c κs. search needs) (λ c κs. search needs) list-refused
+    (λ c κs. sym c.before.setup_answer-first.ensures ∙ c.if-first-ne-ACCEPTED.false) (λ c κs. search rules) (λ c κs. search rules) list-refused
     -- the setup with its closed names
-    closed-of-requires (λ c κs. search needs) (λ c κs. search needs) returns-3)
+    closed-of-requires (λ c κs. search rules) (λ c κs. search rules) returns-3)
