@@ -17,7 +17,7 @@ use Rattle.machine.specs.Operations.{bit}
 use Rattle.machine.specs.Range.{name_test, process_tests, process_test}
 use Rattle.machine.specs.Setup.{names, setup_answer}
 use Rattle.machine.specs.Stage.{exhausted}
-use Rattle.machine.specs.State.{none, figure}
+use Rattle.machine.specs.State.{figure}
 use Rattle.machine.specs.declared.Process.{Process}
 use Rattle.machine.specs.declared.Setup.{Setup}
 use Rattle.machine.proofs.Facts.Tests.{all_of_lem, by_cond, both, and_left, and_right, same_test}

@@ -6,7 +6,7 @@ use native.Mathlib.Decide.{ℕ_discrete}
 use lib.ListN.{length, take, drop}
 use lib.Seq.{take_at, drop_at}
 use contract.Lifetimes.{Lfts}
-use denote.Ref.{Bor}
+use denote.MutBor.{MutBor}
 use Rattle.machine.proofs.Rules.{◌≡◌, ◌≢◌, ◌∙◌, sym, ap, refl, arith, lt-leb, le-leb}
 use Rattle.machine.specs.Answer.{small_buffer}
 use Rattle.machine.specs.Lists.{Event, list_bytes, after}
@@ -29,7 +29,7 @@ use Rattle.whole_list.specs.Dearest.{Wrote, Holder, Produced, EveryDearestList}
 use Rattle.whole_list.proofs.Accepted.{run_carried_out}
 use Rattle.whole_list.proofs.Chain.{end_is}
 
-module _ (κs : Lfts 1) (n leaves g b : ℕ) (d : Done) (out out' : Bor (List ℕ)) (l : DearestList) (set : SetUp n leaves g b d)
+module _ (κs : Lfts 1) (n leaves g b : ℕ) (d : Done) (out out' : MutBor (List ℕ)) (l : DearestList) (set : SetUp n leaves g b d)
     (wrote : Wrote κs n leaves g b out l out') where
   abbrev c : Setup
   c = plain n leaves g b

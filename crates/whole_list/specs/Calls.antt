@@ -3,7 +3,7 @@
 -- no call gives, are named by the machine's events.
 use Rattle.std.specs.Prelude.{◌≡◌, ◌≢◌, List, [], ◌∷◌, ◌++◌, ℕ, zero, suc}
 use contract.Lifetimes.{Lfts}
-use Rattle.std.specs.Borrow.{Bor}
+use Rattle.std.specs.Borrow.{Bor, MutBor}
 use Rattle.machine.specs.Kind.{request, step, release}
 use Rattle.machine.specs.Lists.{Event, event_of, event_done, events_of, entry_bytes}
 use Rattle.machine.specs.Setup.{given, plain}
@@ -48,7 +48,7 @@ pub data Called (s : State) : Event → Done → Type 0 where
   by_release : (p : ℕ) (d : Done) → release-reads.Learnt tt (s, (p, tt)) d (s, (p, tt)) → Called s (event_of release p) d
 
 -- `run(s, bytes, journal)` gave d and left bytes' and journal'
-abbrev pub Ran : Lfts 2 → State → Bor (List ℕ) → Bor (List ℕ) → Done → Bor (List ℕ) → Bor (List ℕ) → Type 0
+abbrev pub Ran : Lfts 2 → State → Bor (List ℕ) → MutBor (List ℕ) → Done → Bor (List ℕ) → MutBor (List ℕ) → Type 0
 Ran κs s bytes journal d bytes' journal' = run-reads.Learnt κs (s, (bytes, (journal, tt))) d (s, (bytes', (journal', tt)))
 
 -- one call of a list: the references that it was lent, and what it gave
@@ -56,8 +56,8 @@ pub record ListCall (s : State) (d : Done) : Type 0 where
   pub lifetimes : Lfts 2
   pub bytes : Bor (List ℕ)
   pub bytes' : Bor (List ℕ)
-  pub journal : Bor (List ℕ)
-  pub journal' : Bor (List ℕ)
+  pub journal : MutBor (List ℕ)
+  pub journal' : MutBor (List ℕ)
   pub ran : Ran lifetimes s bytes journal d bytes' journal'
 
 -- the events of its list

@@ -2,7 +2,7 @@
 -- numbers, which close none: "the ticket on the dearest claim is about setups that close none" (document 02, e).
 use Rattle.std.specs.Prelude.{◌≡◌, ◌≢◌, List, ℕ, ◌*◌, ◌≤◌, ◌<◌, length, take, drop}
 use contract.Lifetimes.{Lfts}
-use Rattle.std.specs.Borrow.{Bor}
+use Rattle.std.specs.Borrow.{MutBor}
 use Rattle.machine.specs.Answer.{small_buffer}
 use Rattle.machine.specs.Lists.{Event}
 use Rattle.machine.specs.Setup.{plain}
@@ -17,7 +17,7 @@ use Rattle.dearest.proofs.dearest_list.Reads as dearest-list-reads
 use Rattle.whole_list.specs.Calls.{SetUp, ListCall, Calls}
 
 -- `dearest_list(n, l, g, b, out)` gave r and left out'
-abbrev pub Wrote : Lfts 1 → ℕ → ℕ → ℕ → ℕ → Bor (List ℕ) → DearestList → Bor (List ℕ) → Type 0
+abbrev pub Wrote : Lfts 1 → ℕ → ℕ → ℕ → ℕ → MutBor (List ℕ) → DearestList → MutBor (List ℕ) → Type 0
 Wrote κs n l g b out r out' = dearest-list-reads.Learnt κs (n, (l, (g, (b, (out, tt))))) r (n, (l, (g, (b, (out', tt)))))
 
 -- a process that holds a name in the state s, with exactly this claim figure
@@ -51,5 +51,5 @@ pub record Produced (c : Setup) (d : Done) (out : List ℕ) (l : DearestList) (o
 
 abbrev pub EveryDearestList : Type 0
 EveryDearestList =
-    (κs : Lfts 1) (n l g b : ℕ) (d : Done) (out out' : Bor (List ℕ)) (r : DearestList)
+    (κs : Lfts 1) (n l g b : ℕ) (d : Done) (out out' : MutBor (List ℕ)) (r : DearestList)
     → SetUp n l g b d → Wrote κs n l g b out r out' → Produced (plain n l g b) d out.now r out'.now

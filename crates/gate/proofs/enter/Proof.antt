@@ -3,7 +3,7 @@ use lib.IntN.{pred_ℤ}
 use mir.Facts.{to_z-of_z}
 use mir.Syntax.{w8}
 use mir.Val.{to_z, of_z}
-use Rattle.machine.proofs.Rules.{◌≡◌, ◌∙◌, sym, true, false, rules, lt-ltb, not-true, le-ltb, not-false}
+use Rattle.machine.proofs.Rules.{◌≡◌, ◌∙◌, sym, true, false, rules, lt-ltb, le-ltb}
 use Rattle.machine.specs.Gate.{above0}
 use Rattle.machine.specs.Room.{can_fall}
 use Rattle.gate.specs.Moves.{entered, entered_queue}

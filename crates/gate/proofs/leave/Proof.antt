@@ -4,7 +4,7 @@ use lib.IntN.{suc_ℤ}
 use mir.Facts.{to_z-of_z}
 use mir.Syntax.{w8}
 use mir.Val.{to_z, of_z}
-use Rattle.machine.proofs.Rules.{◌≡◌, ◌∙◌, sym, true, arith, rules, not-true, eq-eqb, not-false, ne_eqb}
+use Rattle.machine.proofs.Rules.{◌≡◌, ◌∙◌, sym, true, arith, rules, eq-eqb, ne_eqb}
 use Rattle.machine.specs.Room.{can_rise}
 use Rattle.gate.specs.Moves.{departed, departed_queue}
 use Rattle.machine.proofs.Signed.{suc_fits}

@@ -5,7 +5,7 @@ use Prim.Native.Nat.{ℕ, ◌+◌, ◌-◌, ◌<◌}
 use lib.ListN.{length, get_or}
 use mir.Facts.{to_z-of_z}
 use mir.Syntax.{w8}
-use Rattle.machine.proofs.Rules.{◌≡◌, ◌∙◌, sym, ap, subst, refl, ⊎_elim, ◌⊎◌, arith, rules}
+use Rattle.machine.proofs.Rules.{◌≡◌, ◌∙◌, sym, ap, subst, refl, arith, rules}
 use Rattle.machine.specs.State.{process_at}
 use Rattle.machine.specs.declared.Done.{Done}
 use Rattle.machine.specs.declared.State.{State}

@@ -13,16 +13,16 @@ returns c =
     let queue = counters.before.before in
     let head = queue.before.before in
     simp (
-      c.mix-processes.ensures.0,
-      words.mix-bytes3.ensures.0,
-      counters.mix-bytes2.ensures.0,
-      queue.mix-bytes.ensures.0,
-      head.mix-head.ensures.0,
+      c.mix_processes.ensures.0,
+      words.mix_bytes-d.ensures.0,
+      counters.mix_bytes-c.ensures.0,
+      queue.mix_bytes-b.ensures.0,
+      head.mix_head-a.ensures.0,
       digest_append,
     )
 
-pub digest-spec : {M : Type 1} → statement M
-digest-spec =
+pub digest_spec : {M : Type 1} → statement M
+digest_spec =
     tie.close
     (tie.spec
     -- what stands before the arrays

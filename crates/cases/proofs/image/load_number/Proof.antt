@@ -3,15 +3,15 @@
 use mathlib.Core.List.{List}
 use Prim.Native.Nat.{ℕ, suc, ◌+◌, ◌*◌, ◌-◌, ◌^◌, ◌≤◌, ◌<◌}
 use lib.Pow.{pow-add, pow_mono}
-use Rattle.machine.proofs.Rules.{◌≡◌, ◌∙◌, ap, refl, arith, needs}
+use Rattle.machine.proofs.Rules.{◌≡◌, ◌∙◌, ap, refl, arith, rules}
 use Rattle.cases.specs.Image.{byte_at, number_from}
 use Rattle.cases.proofs.image.load_number.Statement.{statement}
 use Rattle.cases.proofs.image.load_number.Tie as tie
 
-abbrev invariant-loop : tie.invariant-loop
+abbrev invariant-loop : tie.invariant-loop-i
 invariant-loop image n₀ i₀ n i = (i ≤ 8) × ((n ≡ number_from image (4 + i) (8 - i)) × (n < 2 ^ (8 * (8 - i))))
 
-abbrev decreases-loop : tie.decreases-loop
+abbrev decreases-loop : tie.decreases-loop-i
 decreases-loop image n₀ i₀ n i = i
 
 -- one byte more, lower than those passed
@@ -30,40 +30,40 @@ module _ (image : List ℕ) (i : ℕ) (low : 0 < i) (high : i ≤ 8) where
       ap (λ (x : ℕ). 2 ^ x) bits ∙ pow-add 2 8 (8 * (8 - i))
 
 -- with a byte still to come the number is within 56 bits
-small : (c : tie.In-loop invariant-loop decreases-loop) → c.before.loop.n < 2 ^ 56
+small : (c : tie.In-loop-i invariant-loop decreases-loop) → c.before.loop-i.n < 2 ^ 56
 small c =
-    let at = c.before.loop in
-    omega (arith, at.invariant.1.1, pow_mono {i = 8 * (8 - at.i)} {j = 56} (omega (arith, c.loop-test.true)))
+    let at = c.before.loop-i in
+    omega (arith, at.invariant.1.1, pow_mono {i = 8 * (8 - at.i)} {j = 56} (omega (arith, c.loop-i-test.true)))
 
-loop-again : tie.Need-loop-preserved invariant-loop decreases-loop
+loop-again : tie.Need-loop-i-preserved invariant-loop decreases-loop
 loop-again c =
     let turn = c.before.before in
     let here = turn.before in
     let image = here.before.args.image.now in
-    let i = here.loop.i in
-    let low : 0 < i = omega (arith, turn.loop-test.true) in (
-      omega (arith, here.loop.invariant.0),
+    let i = here.loop-i.i in
+    let low : 0 < i = omega (arith, turn.loop-i-test.true) in (
+      omega (arith, here.loop-i.invariant.0),
       (
-        omega (arith, more image i low here.loop.invariant.0, here.loop.invariant.1.0, c.over-byte.ensures.0),
-        omega (arith, wider image i low here.loop.invariant.0, here.loop.invariant.1.1, c.over-byte.ensures.1),
+        omega (arith, more image i low here.loop-i.invariant.0, here.loop-i.invariant.1.0, c.over_byte-n.ensures.0),
+        omega (arith, wider image i low here.loop-i.invariant.0, here.loop-i.invariant.1.1, c.over_byte-n.ensures.1),
       ),
     )
 
 returns : tie.Need-returns invariant-loop decreases-loop
 returns c =
-    let at = c.before.loop in
+    let at = c.before.loop-i in
     let image = c.before.before.args.image.now in
-    let none : at.i ≡ 0 = omega (arith, c.loop-test.false) in
+    let none : at.i ≡ 0 = omega (arith, c.loop-i-test.false) in
     at.invariant.1.0 ∙ ap (λ (i : ℕ). number_from image (4 + i) (8 - i)) none
 
-pub load-number-spec : {M : Type 1} → statement M
-load-number-spec =
+pub load_number_spec : {M : Type 1} → statement M
+load_number_spec =
     tie.close
     (tie.spec invariant-loop decreases-loop
     -- before the loop
     (λ c. (omega arith, (unfold number_from in refl, omega arith)))
     -- a turn
-    (λ c. search needs) (λ c. omega (arith, c.before.loop.invariant.0)) (λ c. omega (arith, c.before.loop.invariant.0))
-    (λ c κs. small c.before) (λ c. search needs) loop-again
+    (λ c. search rules) (λ c. omega (arith, c.before.loop-i.invariant.0)) (λ c. omega (arith, c.before.loop-i.invariant.0))
+    (λ c κs. small c.before) (λ c. search rules) loop-again
     -- after the loop
     returns)

@@ -2,18 +2,18 @@
 use Prim.Native.Nat.{ℕ, ◌-◌}
 use mir.Syntax.{w8}
 use mir.Val.{to_z}
-use Rattle.machine.proofs.Rules.{◌≡◌, ap, refl, arith, needs}
+use Rattle.machine.proofs.Rules.{◌≡◌, ap, refl, arith, rules}
 use Rattle.cases.proofs.image.signed.Statement.{statement}
 use Rattle.cases.proofs.image.signed.Tie as tie
 
-pub signed-spec : {M : Type 1} → statement M
-signed-spec =
+pub signed_spec : {M : Type 1} → statement M
+signed_spec =
     tie.close
     (tie.spec
     -- not negative
-    (λ c. search needs) (λ c. refl)
+    (λ c. search rules) (λ c. refl)
     -- negative: the complement of the complement
-    (λ c. search needs)
+    (λ c. search rules)
     (λ c. let x = c.before.args.x in
     let same : 255 - (255 - x) ≡ x = omega (arith, c.before.ranges.x.fits) in
     ap (λ (n : ℕ). to_z w8 n) same))

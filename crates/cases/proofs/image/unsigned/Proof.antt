@@ -26,17 +26,17 @@ complement (negsuc n) f e =
     rw (same, to_z_pos w8 small) (tt, record { fits = omega arith }, omega arith)
 
 -- each past the test
-above : (c : tie.Then1) → let a = c.before.args.a in T (non_neg a) × (nat_abs a ≡ of_z w8 a)
-above c = itself c.before.args.a (rw (to_z-of_z c.before.ranges.a) at c.if1.true)
+above : (c : tie.Then-a-ge0) → let a = c.before.args.a in T (non_neg a) × (nat_abs a ≡ of_z w8 a)
+above c = itself c.before.args.a (rw (to_z-of_z c.before.ranges.a) at c.if-a-ge0.true)
 
-below : (c : tie.Else1)
+below : (c : tie.Else-a-ge0)
     → let a = c.before.args.a in
     let k = to_z w8 (255 - of_z w8 a) in
     T (non_neg k) × Fits w8 (nat_abs k) × (255 - nat_abs k ≡ of_z w8 a)
-below c = let f = c.before.ranges.a in complement _ f (rw (to_z-of_z f) at c.if1.false)
+below c = let f = c.before.ranges.a in complement _ f (rw (to_z-of_z f) at c.if-a-ge0.false)
 
-pub unsigned-spec : {M : Type 1} → statement M
-unsigned-spec =
+pub unsigned_spec : {M : Type 1} → statement M
+unsigned_spec =
     tie.close
     (tie.spec
     -- from 0 on

@@ -1,7 +1,7 @@
 -- `put_figure` meets its contract: a space, and then the digits, which are the decimal. Assumes nothing.
 use mathlib.Core.List.{[], ◌∷◌}
 use lib.ListN.{take}
-use Rattle.machine.proofs.Rules.{◌∙◌, ◌≡◌, needs}
+use Rattle.machine.proofs.Rules.{◌∙◌, ◌≡◌, rules}
 use Rattle.cases.specs.Line.{decimal_in, figure}
 use Rattle.cases.proofs.Lines.{Put, as_put, put_more}
 use Rattle.cases.proofs.Decimals.{digits_decimal}
@@ -15,9 +15,9 @@ returns c =
     let c₂ = c₃.before.before.before.before.before in
     let c₁ = c₂.before.before.before in
     let s = c₁.before.before.before in
-    let d = c₁.decimal in
-    let a = c₂.put-text in
-    let b = c₃.put-text2 in
+    let d = c₁.decimal-k in
+    let a = c₂.put_text-a in
+    let b = c₃.put_text in
     let spelt : take d.result d.new.1.0 ≡ decimal_in 19 s.args.n =
     d.ensures.1.1 ∙ digits_decimal s.args.n d.result s.ranges.n d.ensures.1.0
     in
@@ -28,12 +28,12 @@ returns c =
     let both = put_more space number in
     (both.place, both.stored)
 
-pub put-figure-spec : {M : Type 1} → statement M
-put-figure-spec =
+pub put_figure_spec : {M : Type 1} → statement M
+put_figure_spec =
     tie.close
     (tie.spec
     -- the digits
-    (λ c κs. search needs)
+    (λ c κs. search rules)
     -- a space, and the digits behind it
-    (λ c. search needs) (λ c κs. search needs)
-    (λ c. search needs) (λ c. search needs) (λ c κs. search needs) (λ c. search needs) returns)
+    (λ c. search rules) (λ c κs. search rules)
+    (λ c. search rules) (λ c. search rules) (λ c κs. search rules) (λ c. search rules) returns)

@@ -13,17 +13,17 @@ returns c =
     let c₂ = c₃.before.before.before.before.before in
     let c₁ = c₂.before.before.before.before in
     let s = c₁.before.before.before.before.before.args in
-    let a = c₁.put-text in
-    let b = c₂.put-figures in
-    let e = c₃.put-text2 in
+    let a = c₁.put_text-a in
+    let b = c₂.put_figures-b in
+    let e = c₃.put_text in
     let word : Put s.line.now a.new.0 0 a.result s.word.now = as_put a.ensures in
     let numbers : Put a.new.0 b.new.0 a.result b.result (figures s.numbers.now) = as_put b.ensures in
     let end : Put b.new.0 e.new.0 b.result e.result (10 ∷ []) = as_put e.ensures in
     let whole = put_more word (put_more numbers end) in
     (put_first whole, put_counts whole)
 
-pub put-line-spec : {M : Type 1} → statement M
-put-line-spec =
+pub put_line_spec : {M : Type 1} → statement M
+put_line_spec =
     tie.close
     (tie.spec
     -- the word and the numbers

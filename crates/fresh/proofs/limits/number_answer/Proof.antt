@@ -1,7 +1,7 @@
 -- One check after another, in their order: each fails or passes as its test does. Assumes nothing.
 use Prim.Native.Nat.{ℕ, ◌≤◌}
 use lib.Dec.{leb}
-use Rattle.machine.proofs.Rules.{◌≡◌, ◌∙◌, sym, true, cond, rules, not-true, le-leb, not-false, leb-true, lt-leb}
+use Rattle.machine.proofs.Rules.{◌≡◌, ◌∙◌, sym, true, cond, rules, le-leb, leb-true, lt-leb}
 use Rattle.machine.specs.Setup.{within, is_leaves, names, number_answer}
 use Rattle.machine.proofs.Facts.Leaves.{leaves_high}
 use Rattle.machine.proofs.Facts.Tests.{and_right}

@@ -2,7 +2,7 @@
 -- Assumes nothing.
 use Prim.Native.Nat.{◌^◌, ◌≤◌}
 use lib.Dec.{ltb}
-use Rattle.machine.proofs.Rules.{◌≡◌, ◌∙◌, sym, Bool, true, false, cond, arith, rules, not-true, not-false, ltb-true, lt-ltb, le-ltb}
+use Rattle.machine.proofs.Rules.{◌≡◌, ◌∙◌, sym, Bool, true, false, cond, arith, rules, ltb-true, lt-ltb, le-ltb}
 use Rattle.machine.specs.Answer as answer
 use Rattle.machine.specs.Setup.{names, open_names, number_answer, setup_answer}
 use Rattle.machine.specs.declared.Setup.{Setup}

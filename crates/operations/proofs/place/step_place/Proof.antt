@@ -3,7 +3,7 @@ use Prim.Native.Nat.{◌<◌}
 use Rattle.machine.proofs.Rules.{sym, arith, rules, tests}
 use Rattle.machine.specs.Getname.{segment_of}
 use Rattle.operations.specs.Places.{step_place}
-use Rattle.operations.proofs.Stages.{at_stage, stage_above, above_six}
+use Rattle.operations.proofs.Stages.{at_stage, stage_above}
 use Rattle.operations.proofs.Segments.{segment_sum}
 use Rattle.machine.proofs.Ranges.{limits_of}
 use Rattle.operations.proofs.place.step_place.Statement.{statement}

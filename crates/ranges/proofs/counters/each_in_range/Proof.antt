@@ -1,7 +1,7 @@
 -- `each_in_range` meets its contract. The loop keeps that every counter passed is in range; what is left of 16 falls.
 -- Assumes nothing.
 use Rattle.std.proofs.Common.{ℕ, ◌+◌, ◌-◌, ◌<◌, ◌≤◌, not-suc-le-zero, eq-or-lt_of_le}
-use Rattle.machine.proofs.Rules.{◌≡◌, ◌∙◌, sym, true, Bool, ⊎_elim, arith, rules, not-true, not-false}
+use Rattle.machine.proofs.Rules.{◌≡◌, ◌∙◌, sym, true, Bool, ⊎_elim, arith, rules}
 use Rattle.machine.proofs.Facts.Below.{all_in, all_fails}
 use Rattle.machine.proofs.Ranges.{limits_of}
 use Rattle.fresh.proofs.Accepted.{leaves_16}

@@ -3,7 +3,7 @@
 -- Assumes nothing.
 use Rattle.std.proofs.Common.{ℕ, ◌+◌, ◌-◌, ◌*◌, ◌%◌, ◌^◌, ◌<◌, ◌≤◌, List, le_antisymm, add-one}
 use native.Mathlib.Nat.{pow-succ'}
-use Rattle.machine.proofs.Rules.{◌≡◌, ◌∙◌, sym, ap, refl, true, Bool, ◌&&◌, arith, rules, not-true, not-false}
+use Rattle.machine.proofs.Rules.{◌≡◌, ◌∙◌, sym, ap, refl, true, Bool, ◌&&◌, arith, rules}
 use Rattle.machine.specs.Below.{all_below}
 use Rattle.machine.specs.declared.Setup.{Setup}
 use Rattle.machine.proofs.Facts.Below.{all_parts, fails_further}

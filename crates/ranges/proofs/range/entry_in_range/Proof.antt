@@ -1,7 +1,7 @@
 -- `entry_in_range` meets its contract: each return is one failed test of the list, and past three of them the queue decides.
 -- Assumes nothing.
 use Rattle.std.proofs.Common.{List, to_z-of_z, w8, to_z, of_z}
-use Rattle.machine.proofs.Rules.{◌≡◌, ◌∙◌, sym, Bool, rules, not-true, eq-eqb, le-leb, not-false, ne_eqb, lt-leb}
+use Rattle.machine.proofs.Rules.{◌≡◌, ◌∙◌, sym, Bool, rules, eq-eqb, le-leb, ne_eqb, lt-leb}
 use Rattle.machine.specs.Range.{gate_in_range, entry_tests}
 use Rattle.machine.specs.Setup.{open_names, setup_answer}
 use Rattle.machine.proofs.Ranges.{Limits, limits_of}

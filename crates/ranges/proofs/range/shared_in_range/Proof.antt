@@ -1,7 +1,7 @@
 -- `shared_in_range` meets its contract: each return is one failed test of the list, and past the others the closed bits decide. Assumes
 -- nothing.
 use Rattle.std.proofs.Common.{Bool, List, to_z-of_z, w8, to_z, of_z}
-use Rattle.machine.proofs.Rules.{◌≡◌, ◌∙◌, sym, true, rules, not-true, not-false, eqb-true}
+use Rattle.machine.proofs.Rules.{◌≡◌, ◌∙◌, sym, true, rules, eqb-true}
 use Rattle.machine.specs.Check.{all_of}
 use Rattle.machine.specs.Range.{entry_tests}
 use Rattle.machine.specs.Setup.{setup_answer}

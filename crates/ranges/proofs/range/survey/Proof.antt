@@ -5,7 +5,7 @@
 use Rattle.std.proofs.Common.{ℕ, ◌+◌, ◌-◌, ◌*◌, ◌<◌, ◌≤◌, eqb, le_refl, le_antisymm, add-one, to_z-of_z, w8}
 use native.Mathlib.Decide.{ℕ_discrete}
 use Rattle.machine.proofs.Rules.{◌≡◌, ◌∙◌, sym, ap, refl, Bool, true, false, false≢true, cond, ◌&&◌}
-use Rattle.machine.proofs.Rules.{arith, rules, not-true, not-false, eq-eqb, ne_eqb, eqb-true}
+use Rattle.machine.proofs.Rules.{arith, rules, eq-eqb, ne_eqb, eqb-true}
 use Rattle.machine.specs.Below.{all_below}
 use Rattle.machine.specs.Check.{all_of}
 use Rattle.machine.specs.Range.{counter_test, word_test, closed_test, process_test, entry_tests, in_range}

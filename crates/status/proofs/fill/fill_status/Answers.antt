@@ -1,6 +1,6 @@
 -- Answered 0, the processes are at most 64, the list has room for them, and each record stored is one more written; answered anything else,
 -- the list is as it was.
-use Rattle.std.proofs.Common.{◌≡◌, ◌<◌, ◌≤◌, ◌×◌, ℕ, List, length, set, ap, refl, sym, ◌∙◌, arith, rules, add-one}
+use Rattle.std.proofs.Common.{◌≡◌, ℕ, List, length, set, le_antisymm, ap, refl, sym, ◌∙◌, arith, rules, add-one}
 use Rattle.machine.proofs.Facts.Lists.{length_mapped}
 use Rattle.machine.specs.Reports.{status_of, status_answer}
 use Rattle.machine.specs.State.{figure, process_at, no_process}
@@ -40,7 +40,7 @@ loop-i-preserved c =
     let i : ℕ = c.loop-i.i in
     let e = sym (c.status_answer-answer.ensures a.records.now refl) ∙ c.if-answer-ne-ACCEPTED.false in
     let fine = accepted a.state a.records.now e in
-    let long : length c.processes-list.result ≡ 64 = ? in
+    let long : length c.processes-list.result ≡ 64 = rw c.processes-list.ensures (search (rules, length_mapped)) in
     let more = written_more status_of c.processes-list.result no_process i a.records.now
     (omega (arith, long, fine.0, c.count-n.ensures)) (omega (arith, fine.1, c.count-n.ensures)) in
     record { within = omega arith; filled = rw (c.status_of.ensures, c.loop-i.invariant.filled, add-one i) more }
@@ -49,4 +49,10 @@ pub returns : goal.returns
 returns c =
     let a = c.args in
     let e = sym (c.status_answer-answer.ensures a.records.now refl) ∙ c.if-answer-ne-ACCEPTED.false in
-    (sym e, ?)
+    let last = le_antisymm (rw c.count-n.ensures at c.loop-i.invariant.within) (rw c.count-n.ensures at c.loop-i-test.false) in (
+      sym e,
+      c.loop-i.invariant.filled
+          ∙ ap (λ (ps : List Process). written status_of ps c.loop-i.i a.records.now) c.processes-list.ensures
+          ∙ ap (λ (i : ℕ). written status_of a.state.process i a.records.now) last
+          ∙ accepted_list a.state a.records.now e,
+    )

@@ -11,11 +11,11 @@ returns c =
     let s = setup.before.before.before in
     let f = s.args.file.now in
     let j = s.args.journal.now in
-    rw (c.before.before.run.ensures.1, setup.read-setup.ensures, events.read-events.ensures.0)
+    rw (c.before.before.run.ensures.1, setup.read_setup-setup.ensures, events.read_events-events.ensures.0)
     (file_journal_lem f j s.requires.0 s.requires.1, file_journal_size f j s.requires.0 s.requires.1)
 
-pub run-file-spec : {M : Type 1} → statement M
-run-file-spec =
+pub run_file_spec : {M : Type 1} → statement M
+run_file_spec =
     tie.close
     (tie.spec
     -- the setup and the events

@@ -1,7 +1,7 @@
 -- `line_size` meets its contract: a line is as long as its four figures. Assumes nothing.
 use Prim.Native.Nat.{◌+◌}
 use lib.ListN.{get_or}
-use Rattle.machine.proofs.Rules.{arith, needs}
+use Rattle.machine.proofs.Rules.{arith, rules}
 use Rattle.text.proofs.Entries.{line-length}
 use Rattle.text.proofs.lines.line_size.Statement.{statement}
 use Rattle.text.proofs.lines.line_size.Tie as tie
@@ -14,21 +14,21 @@ sum c =
     let a = first.before.before.before.args in
     let j = a.journal.now in
     let long = line-length (get_or j a.i 0) (get_or j (a.i + 1) 0) (get_or j (a.i + 2) 0) (get_or j (a.i + 3) 0) in
-    let one = first.figure-size.ensures.0 in
-    let two = second.figure-size2.ensures.0 in
-    omega (arith, long, one, two, third.figure-size3.ensures.0, c.figure-size4.ensures.0)
+    let one = first.figure_size-a.ensures.0 in
+    let two = second.figure_size-b.ensures.0 in
+    omega (arith, long, one, two, third.figure_size-c.ensures.0, c.figure_size-d.ensures.0)
 
-pub line-size-spec : {M : Type 1} → statement M
-line-size-spec =
+pub line_size_spec : {M : Type 1} → statement M
+line_size_spec =
     tie.close
     (tie.spec
     -- the answer
-    (λ c. search needs) (λ c κs. search needs)
+    (λ c. search rules) (λ c κs. search rules)
     -- the stage
-    (λ c. search needs) (λ c. search needs) (λ c κs. search needs)
+    (λ c. search rules) (λ c. search rules) (λ c κs. search rules)
     -- the name
-    (λ c. search needs) (λ c. search needs) (λ c κs. search needs)
+    (λ c. search rules) (λ c. search rules) (λ c κs. search rules)
     -- the steps
-    (λ c. search needs) (λ c. search needs) (λ c κs. search needs)
+    (λ c. search rules) (λ c. search rules) (λ c κs. search rules)
     -- the sum
-    (λ c. search needs) (λ c. search needs) (λ c. search needs) sum)
+    (λ c. search rules) (λ c. search rules) (λ c. search rules) sum)

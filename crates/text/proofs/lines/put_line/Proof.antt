@@ -23,27 +23,27 @@ figures s =
 abbrev Left : tie.Start → List ℕ → ℕ → ℕ → Type 0
 Left s o a k = Putting s.args.out.now s.args.at (joined (figures s)) o a (drop k (figures s))
 
-abbrev start : tie.After-put-figure → tie.Start
+abbrev start : tie.After-put_figure-a → tie.Start
 start c = c.before.before.before.before.before
 
-after-1 : (c : tie.After-put-figure) → Left (start c) c.put-figure.new.0 c.put-figure.result 1
+after-1 : (c : tie.After-put_figure-a) → Left (start c) c.put_figure-a.new.0 c.put_figure-a.result 1
 unfolding line
-after-1 c = let s = start c in next (begun (figures s) s.pre.1) c.put-figure.ensures
+after-1 c = let s = start c in next (begun (figures s) s.requires.1) c.put_figure-a.ensures
 
-abbrev to-1 : tie.After-put-figure2 → tie.After-put-figure
+abbrev to-1 : tie.After-put_figure-b → tie.After-put_figure-a
 to-1 c = c.before.before.before.before.before
 
-after-2 : (c : tie.After-put-figure2) → Left (start (to-1 c)) c.put-figure2.new.0 c.put-figure2.result 2
-after-2 c = next (after-1 (to-1 c)) c.put-figure2.ensures
+after-2 : (c : tie.After-put_figure-b) → Left (start (to-1 c)) c.put_figure-b.new.0 c.put_figure-b.result 2
+after-2 c = next (after-1 (to-1 c)) c.put_figure-b.ensures
 
-abbrev to-2 : tie.After-put-figure3 → tie.After-put-figure2
+abbrev to-2 : tie.After-put_figure-c → tie.After-put_figure-b
 to-2 c = c.before.before.before.before.before
 
-after-3 : (c : tie.After-put-figure3) → Left (start (to-1 (to-2 c))) c.put-figure3.new.0 c.put-figure3.result 3
-after-3 c = next (after-2 (to-2 c)) c.put-figure3.ensures
+after-3 : (c : tie.After-put_figure-c) → Left (start (to-1 (to-2 c))) c.put_figure-c.new.0 c.put_figure-c.result 3
+after-3 c = next (after-2 (to-2 c)) c.put_figure-c.ensures
 
-pub put-line-spec : {M : Type 1} → statement M
-put-line-spec =
+pub put_line_spec : {M : Type 1} → statement M
+put_line_spec =
     tie.close
     (tie.spec
     -- the answer
@@ -59,4 +59,4 @@ put-line-spec =
     -- the place after them
     (λ c. search rules)
     (λ c. let f = c.before.before in
-    unfold line in last (after-3 f.before.before.before.before.before) f.put-figure4.ensures))
+    unfold line in last (after-3 f.before.before.before.before.before) f.put_figure.ensures))

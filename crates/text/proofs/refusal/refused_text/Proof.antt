@@ -2,7 +2,7 @@
 use mathlib.Core.List.{[], ◌∷◌}
 use Prim.Native.Nat.{ℕ, ◌+◌, ◌≤◌}
 use lib.ListN.{length}
-use Rattle.machine.proofs.Rules.{refl, ◌≡◌, arith, needs}
+use Rattle.machine.proofs.Rules.{refl, ◌≡◌, arith, rules}
 use Rattle.text.specs.Lines.{newline, figure, refused_word, refused}
 use Rattle.text.proofs.Entries.{figure-length}
 use Rattle.text.proofs.Filled.{filled, short}
@@ -15,13 +15,13 @@ unfolding refused
 refused-length n = omega (arith, figure-length n newline)
 
 -- past the check there is room for all of it
-fitting : (c : tie.Else1) → let a = c.before.before.before.args in length (refused a.n) ≤ length a.out.now
+fitting : (c : tie.Else-out-size) → let a = c.before.before.before.args in length (refused a.n) ≤ length a.out.now
 fitting c =
     let a = c.before.before.before.args in
-    omega (arith, c.if1.false, c.before.figure-size.ensures.0, refused-length a.n)
+    omega (arith, c.if-out-size.false, c.before.figure_size-size.ensures.0, refused-length a.n)
 
 -- the word is put, and the figure is left
-word : (c : tie.After-put-word)
+word : (c : tie.After-put_word)
     → let a = c.before.before.before.before.before.args in
     Putting a.out.now 0 (refused a.n) c.put_word.new.0 8 (figure a.n newline ∷ [])
 unfolding refused
@@ -30,17 +30,17 @@ word c =
     let parts = refused_word ∷ figure e.before.before.before.args.n newline ∷ [] in
     next (begun parts (omega (arith, fitting e))) (refl, c.put_word.ensures)
 
-pub refused-text-spec : {M : Type 1} → statement M
-refused-text-spec =
+pub refused_text_spec : {M : Type 1} → statement M
+refused_text_spec =
     tie.close
     (tie.spec
     -- the line's size
-    (λ c κs. search needs) (λ c. search needs)
+    (λ c κs. search rules) (λ c. search rules)
     -- the buffer is too short
     (λ c. let size = refused-length c.before.before.before.args.n in
-    short _ _ (omega (arith, c.if1.true, c.before.figure-size.ensures.0, size)))
+    short _ _ (omega (arith, c.if-out-size.true, c.before.figure_size-size.ensures.0, size)))
     -- the word and the figure
-    (λ c κs. search needs) (λ c κs. (word c.before.before.before).room) (λ c. search needs)
+    (λ c κs. search rules) (λ c κs. (word c.before.before.before).room) (λ c. search rules)
     (λ c. let f = c.before.before in
     let w = f.before.before.before.before in
-    filled _ _ (fitting w.before.before) (from_start (last (word w) f.put-figure.ensures))))
+    filled _ _ (fitting w.before.before) (from_start (last (word w) f.put_figure-end.ensures))))
