@@ -2,7 +2,7 @@
 -- else.
 use Rattle.std.specs.Prelude.{List, ℕ, take}
 use contract.Lifetimes.{Lfts}
-use Rattle.std.specs.Borrow.{Bor}
+use Rattle.std.specs.Borrow.{Bor, MutBor}
 use Rattle.machine.specs.declared.Done.{Done}
 use Rattle.machine.specs.declared.Written.{Written}
 use Rattle.day_file.proofs.reader.read_setup.Reads as read-setup-reads
@@ -14,8 +14,8 @@ pub record WriteCall (n l g b : ℕ) : Type 0 where
   pub lifetimes : Lfts 2
   pub events : Bor (List ℕ)
   pub events' : Bor (List ℕ)
-  pub out : Bor (List ℕ)
-  pub out' : Bor (List ℕ)
+  pub out : MutBor (List ℕ)
+  pub out' : MutBor (List ℕ)
   pub gave : Written
   pub wrote : write-file-reads.Learnt lifetimes (n, (l, (g, (b, (events, (out, tt)))))) gave (n, (l, (g, (b, (events', (out', tt))))))
 

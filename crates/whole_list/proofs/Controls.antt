@@ -4,7 +4,8 @@
 use mathlib.Core.List.{List, [], ◌∷◌}
 use Prim.Native.Nat.{ℕ}
 use contract.Lifetimes.{Lfts}
-use denote.Ref.{Bor}
+use denote.Bor.{Bor}
+use denote.MutBor.{MutBor}
 use lib.ListN.{replicate}
 use Rattle.machine.proofs.Rules.{refl, ◌≡◌, arith}
 use Rattle.machine.specs.Event.{event}
@@ -29,14 +30,18 @@ chain_of s (e ∷ es) =
 abbrev lent : List ℕ → Bor (List ℕ)
 lent xs = record { ref_ptr = (0, 0); now = xs }
 
+-- one to a list that may be written
+abbrev lent_mut : List ℕ → MutBor (List ℕ)
+lent_mut xs = record { ref_ptr = (0, 0); ghost_name = 0; now = xs }
+
 abbrev pub list_call_of : Lfts 2 → (s : State) (bytes journal : List ℕ) → ListCall s (run s bytes journal)
 list_call_of κs s bytes journal =
     record {
       lifetimes = κs;
       bytes = lent bytes;
       bytes' = lent bytes;
-      journal = lent journal;
-      journal' = lent (run_journal s bytes journal);
+      journal = lent_mut journal;
+      journal' = lent_mut (run_journal s bytes journal);
       ran = (refl, refl);
     }
 
@@ -86,7 +91,7 @@ closed_set_up κs n l g b ps = refl
 
 -- and so does the call of the dearest list, whatever the four numbers and the buffer
 pub dearest_wrote : (κs : Lfts 1) (n l g b : ℕ) (out : List ℕ)
-    → Wrote κs n l g b (lent out) (dearest_list (plain n l g b) out) (lent (dearest_buffer (plain n l g b) out))
+    → Wrote κs n l g b (lent_mut out) (dearest_list (plain n l g b) out) (lent_mut (dearest_buffer (plain n l g b) out))
 dearest_wrote κs n l g b out = (refl, refl)
 
 pub mixed : Lfts 2 → Calls start.state

@@ -1,6 +1,6 @@
 -- `event` meets its contract: a list of one event, and its entry holds the answer. Assumes nothing.
 use lib.ListN.{replicate}
-use Rattle.machine.proofs.Rules.{◌∙◌, sym, rules, not-true, not-false}
+use Rattle.machine.proofs.Rules.{◌∙◌, sym, rules}
 use Rattle.machine.specs.Event.{event}
 use Rattle.renaming.proofs.OneEvent.{one_event}
 use Rattle.renaming.proofs.event.event.Statement.{statement}

@@ -1,5 +1,5 @@
 -- `run` meets its contract: one check after another, in their order, then the runner. Assumes nothing.
-use Rattle.machine.proofs.Rules.{◌∙◌, sym, arith, rules, not-true, not-false, tests}
+use Rattle.machine.proofs.Rules.{◌∙◌, sym, arith, rules, tests}
 use Rattle.machine.specs.Lists.{run, run_journal}
 use Rattle.renaming.proofs.list.run.Statement.{statement}
 use Rattle.renaming.proofs.list.run.Tie as tie

@@ -2,7 +2,7 @@
 -- both the list is the number that it closes, and the rest is the setup's. Assumes nothing.
 use mathlib.Core.List.{List}
 use Prim.Native.Nat.{ℕ}
-use Rattle.machine.proofs.Rules.{◌≡◌, ◌∙◌, sym, ap, arith, rules, not-true, not-false}
+use Rattle.machine.proofs.Rules.{◌≡◌, ◌∙◌, sym, ap, arith, rules}
 use Rattle.machine.specs.Closed.{lists_below}
 use Rattle.machine.specs.Setup.{numbered, given, plain, names, setup_answer}
 use Rattle.machine.specs.State.{done, blank, partial_setup}
