@@ -50,12 +50,6 @@ pub head_length : (c : Setup) (size : ℕ) → length (head_bytes c size) ≡ he
 unfolding head_bytes
 head_length c size = refl
 
--- the part behind the head has room for so many bytes
-pub room_behind : (o : List ℕ) (k : ℕ) → head_size + k ≤ length o → k ≤ length (take (length o - head_size) (drop head_size o))
-room_behind o k room =
-    let size = length-drop head_size o in
-    rw (take_all (length o - head_size) (drop head_size o) (omega (arith, size))) (omega (arith, size, room))
-
 module _ (c : Setup) (events : List ℕ) where
   abbrev n : ℕ
   n = length events
@@ -67,9 +61,8 @@ module _ (c : Setup) (events : List ℕ) where
   file_length = length-append head events ∙ ap (λ (k : ℕ). k + n) (head_length c n)
 
   -- the head put at the start of a buffer, and the events copied into the part behind it
-  pub events_behind : (out : List ℕ) {o q : List ℕ} → head_size + n ≤ length out → o ≡ sets out 0 head
-      → q ≡ take n events ++ drop n (take (length o - head_size) (drop head_size o))
-      → put_mid head_size (length o - head_size) o q ≡ file_bytes c events ++ drop (length (file_bytes c events)) out
+  pub events_behind : (out : List ℕ) {o q : List ℕ} → head_size + n ≤ length out → o ≡ sets out 0 head → q ≡ events
+      → put_mid head_size (head_size + n - head_size) o q ≡ file_bytes c events ++ drop (length (file_bytes c events)) out
   events_behind out {o} {q} room put copied =
       let rest : List ℕ = drop head_size out in
       let is : o ≡ head ++ rest
@@ -78,8 +71,5 @@ module _ (c : Setup) (events : List ℕ) where
       ∙ ap (λ (k : ℕ). head ++ drop k out) (head_length c n) in
       let front : take head_size o ≡ head = ap (take head_size) is ∙ take_at head rest head_size (head_length c n) in
       let back : drop head_size o ≡ rest = ap (drop head_size) is ∙ drop_at head rest head_size (head_length c n) in
-      let size : length o - head_size ≡ length rest
-      = omega (arith, ap (λ (l : List ℕ). length l) is, length-append head rest, head_length c n) in
-      let behind : q ≡ events ++ drop n rest
-      = copied ∙ rw (back, size, take-length events, take-length rest) in
-      rw (front, back, size, drop-length rest, behind, append-nil, append_assoc, drop-drop, file_length)
+      let size : head_size + n - head_size ≡ n = omega arith in
+      rw (front, back, size, copied, append_assoc, drop-drop, file_length)

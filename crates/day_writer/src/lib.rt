@@ -94,7 +94,7 @@ pub fn write_file(n: u8, l: u8, g: u8, b: u8, events: &[u8], out: &mut [u8]) -> 
         };
     }
     put_head(&mut *out, n, l, g, b, size);
-    bytes::copy(events, &mut out[HEAD_SIZE..]);
+    out[HEAD_SIZE..HEAD_SIZE + size].copy_from_slice(events);
     Written {
         answer: answer::ACCEPTED,
         size: HEAD_SIZE + size,

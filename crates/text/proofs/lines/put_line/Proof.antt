@@ -26,20 +26,20 @@ Left s o a k = Putting s.args.out.now s.args.at (joined (figures s)) o a (drop k
 abbrev start : tie.After-put_figure-a → tie.Start
 start c = c.before.before.before.before.before
 
-after-1 : (c : tie.After-put_figure-a) → Left (start c) c.put_figure-a.new.0 c.put_figure-a.result 1
+after-1 : (c : tie.After-put_figure-a) → Left (start c) c.put_figure-a.new.out c.put_figure-a.result 1
 unfolding line
 after-1 c = let s = start c in next (begun (figures s) s.requires.1) c.put_figure-a.ensures
 
 abbrev to-1 : tie.After-put_figure-b → tie.After-put_figure-a
 to-1 c = c.before.before.before.before.before
 
-after-2 : (c : tie.After-put_figure-b) → Left (start (to-1 c)) c.put_figure-b.new.0 c.put_figure-b.result 2
+after-2 : (c : tie.After-put_figure-b) → Left (start (to-1 c)) c.put_figure-b.new.out c.put_figure-b.result 2
 after-2 c = next (after-1 (to-1 c)) c.put_figure-b.ensures
 
 abbrev to-2 : tie.After-put_figure-c → tie.After-put_figure-b
 to-2 c = c.before.before.before.before.before
 
-after-3 : (c : tie.After-put_figure-c) → Left (start (to-1 (to-2 c))) c.put_figure-c.new.0 c.put_figure-c.result 3
+after-3 : (c : tie.After-put_figure-c) → Left (start (to-1 (to-2 c))) c.put_figure-c.new.out c.put_figure-c.result 3
 after-3 c = next (after-2 (to-2 c)) c.put_figure-c.ensures
 
 pub put_line_spec : {M : Type 1} → statement M

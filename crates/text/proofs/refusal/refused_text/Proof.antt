@@ -23,7 +23,7 @@ fitting c =
 -- the word is put, and the figure is left
 word : (c : tie.After-put_word)
     → let a = c.before.before.before.before.before.args in
-    Putting a.out.now 0 (refused a.n) c.put_word.new.0 8 (figure a.n newline ∷ [])
+    Putting a.out.now 0 (refused a.n) c.put_word.new.out 8 (figure a.n newline ∷ [])
 unfolding refused
 word c =
     let e = c.before.before in

@@ -1,5 +1,5 @@
 -- `zevgorim_write_file` meets its contract: a number above 255 is refused as 255 is. Assumes nothing.
-use Rattle.machine.proofs.Rules.{◌∙◌, needs}
+use Rattle.machine.proofs.Rules.{◌∙◌, rules}
 use Rattle.zevgorim.proofs.Narrowed.{write_narrowed, buffer_narrowed}
 use Rattle.zevgorim.proofs.files.zevgorim_write_file.Statement.{statement}
 use Rattle.zevgorim.proofs.files.zevgorim_write_file.Tie as tie
@@ -12,15 +12,15 @@ returns c =
     let leaves = segments.before in
     let processes = leaves.before in
     let said
-    = rw (processes.narrowed.ensures, leaves.narrowed2.ensures, segments.narrowed3.ensures, bits.narrowed4.ensures)
-    at call.write-file.ensures in
+    = rw (processes.narrowed.ensures, leaves.narrowed-2.ensures, segments.narrowed-3.ensures, bits.narrowed-4.ensures)
+    at call.write_file.ensures in
     (said.0 ∙ write_narrowed _ _ _ _ _ _, said.1 ∙ buffer_narrowed _ _ _ _ _ _)
 
-pub zevgorim-write-file-spec : {M : Type 1} → statement M
-zevgorim-write-file-spec =
+pub zevgorim_write_file_spec : {M : Type 1} → statement M
+zevgorim_write_file_spec =
     tie.close
     (tie.spec
     -- the four numbers
-    (λ c κs. search needs) (λ c κs. search needs) (λ c κs. search needs) (λ c κs. search needs)
+    (λ c κs. search rules) (λ c κs. search rules) (λ c κs. search rules) (λ c κs. search rules)
     -- the call
-    (λ c κs. search needs) (λ c. search needs) returns)
+    (λ c κs. search rules) (λ c. search rules) returns)
