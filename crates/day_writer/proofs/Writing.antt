@@ -1,10 +1,10 @@
 -- What the writer answers, by its checks: the setup's first, then those of the list and the buffer; and that the head with the events
 -- behind it is the file. Assumes nothing.
-use mathlib.Core.List.{List, ◌++◌, append-nil, append_assoc}
+use mathlib.Core.List.{List, ◌++◌, append_assoc}
 use Prim.Native.Nat.{ℕ, ◌+◌, ◌-◌, ◌%◌, ◌≤◌}
 use borrow.Rule.Slice.PartMut.{put_mid}
-use lib.ListN.{length, take, drop, length-append, length-drop}
-use lib.Seq.{sets, take_at, drop_at, take_all, take-length, drop-length, drop-drop}
+use lib.ListN.{length, take, drop, length-append}
+use lib.Seq.{sets, take_at, drop_at, drop-drop}
 use Rattle.machine.proofs.Rules.{◌≡◌, ◌≢◌, ◌∙◌, sym, ap, refl, leb-true, eqb-true, arith}
 use Rattle.machine.specs.Check.{checked}
 use Rattle.machine.specs.Setup.{setup_answer}

@@ -1,9 +1,8 @@
 -- `write_file` meets its contract: refused by its checks and nothing written, or the head put and the events copied behind it. Assumes
 -- nothing.
-use Rattle.std.proofs.Common.{◌≡◌, ◌∙◌, ◌+◌, ◌-◌, ◌≤◌, ℕ, List, length, refl, sym, arith}
+use Rattle.std.proofs.Common.{◌∙◌, length, refl, sym, arith}
 use Rattle.machine.proofs.Facts.Filled.{fills_refused, fills_accepted}
 use Rattle.machine.specs.Setup.{plain}
-use Rattle.day_file.specs.Layout.{head_size}
 use Rattle.day_file.specs.Writer.{file_bytes, write_checks, write_answer, write_file, write_buffer}
 use Rattle.day_writer.proofs.Writing.{has_room_lem, file_length, events_behind}
 use Rattle.day_writer.proofs.write_file.Goals as goal

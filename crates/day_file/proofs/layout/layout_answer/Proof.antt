@@ -1,6 +1,6 @@
 -- `layout_answer` meets its contract: one check after another, in their order, each test from what the call before it told. Assumes
 -- nothing.
-use Rattle.machine.proofs.Rules.{◌≡◌, ◌∙◌, sym, true, rules, not-true, not-false, tests}
+use Rattle.machine.proofs.Rules.{◌≡◌, ◌∙◌, sym, true, rules, tests}
 use Rattle.day_file.specs.Layout.{is_marked, is_entry, setup_entry, events_entry, body_size, layout_answer}
 use Rattle.day_file.proofs.layout.layout_answer.Statement.{statement}
 use Rattle.day_file.proofs.layout.layout_answer.Tie as tie

@@ -1,13 +1,11 @@
 -- Answered 0, the processes are at most 64, the list has room for them, and each record stored is one more written; answered anything else,
 -- the list is as it was.
-use Rattle.std.proofs.Common.{◌≡◌, ℕ, List, length, set, le_antisymm, ap, refl, sym, ◌∙◌, arith, rules, add-one}
+use Rattle.std.proofs.Common.{◌≡◌, ℕ, List, length, le_antisymm, ap, refl, sym, ◌∙◌, arith, rules, add-one}
 use Rattle.machine.proofs.Facts.Lists.{length_mapped}
-use Rattle.machine.specs.Reports.{status_of, status_answer}
-use Rattle.machine.specs.State.{figure, process_at, no_process}
+use Rattle.machine.specs.Reports.{status_of}
+use Rattle.machine.specs.State.{no_process}
 use Rattle.machine.specs.declared.Process.{Process}
-use Rattle.machine.specs.declared.State.{State}
-use Rattle.machine.specs.declared.Status.{Status}
-use Rattle.status.proofs.Written.{written, written-length, written_more, accepted, accepted_list, refused_list}
+use Rattle.status.proofs.Written.{written, written_more, accepted, accepted_list, refused_list}
 use Rattle.status.proofs.fill.fill_status.Goals as goal
 
 pub returns-then-answer-ne-ACCEPTED : goal.returns-then-answer-ne-ACCEPTED

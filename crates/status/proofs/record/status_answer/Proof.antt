@@ -1,5 +1,5 @@
 -- `status_answer` meets its contract: each return rewrites with the tests that led there. Assumes nothing.
-use Rattle.machine.proofs.Rules.{◌∙◌, sym, rules, not-true, le-leb, not-false, lt-leb}
+use Rattle.machine.proofs.Rules.{◌∙◌, sym, rules, le-leb, lt-leb}
 use Rattle.machine.specs.Reports.{status_answer}
 use Rattle.status.proofs.record.status_answer.Statement.{statement}
 use Rattle.status.proofs.record.status_answer.Tie as tie

@@ -1,7 +1,7 @@
 -- `journal_text` meets its contract: short where the lines do not fit, and otherwise the lines from the start on. Assumes nothing.
 use Prim.Native.Nat.{◌≤◌}
 use lib.ListN.{length}
-use Rattle.machine.proofs.Rules.{◌∙◌, sym, rules, not-true, leb-false, not-false, leb-true}
+use Rattle.machine.proofs.Rules.{◌∙◌, sym, rules, leb-false, leb-true}
 use Rattle.text.specs.Lines.{lines}
 use Rattle.text.proofs.Filled.{filled, short}
 use Rattle.text.proofs.lines.journal_text.Statement.{statement}
