@@ -64,6 +64,6 @@ load_number_spec =
     (λ c. (omega arith, (unfold number_from in refl, omega arith)))
     -- a turn
     (λ c. search rules) (λ c. omega (arith, c.before.loop-i.invariant.0)) (λ c. omega (arith, c.before.loop-i.invariant.0))
-    (λ c κs. small c.before) (λ c. search rules) loop-again
+    (λ c κs. small c.before.before) (λ c. search rules) loop-again
     -- after the loop
     returns)

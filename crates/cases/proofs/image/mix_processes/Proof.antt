@@ -17,7 +17,7 @@ abbrev decreases-loop : tie.decreases-loop-p
 decreases-loop d state all₀ p₀ all p = 64 - p
 
 -- the state's list of processes has 64 places
-sized : (c : tie.Start invariant-loop decreases-loop) → length c.args.t2.process ≡ 64
+sized : (c : tie.Start invariant-loop decreases-loop) → length c.args.state.process ≡ 64
 sized c = search (rules, length_mapped)
 
 pub mix_processes_spec : {M : Type 1} → statement M

@@ -16,7 +16,7 @@ returns c =
     let words = processes.before.before in
     let counters = words.before.before.before in
     let queue = counters.before.before.before in
-    let same : to_z w8 (of_z w8 gate.result) ≡ gate.result = to_z-of_z (search rules) in
+    let same : to_z w8 (of_z w8 gate.result) ≡ gate.result = to_z-of_z {w = w8} (search rules) in
     rw same
     (simp (
       gate.ensures,

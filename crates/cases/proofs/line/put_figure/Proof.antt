@@ -18,11 +18,11 @@ returns c =
     let d = c₁.decimal-k in
     let a = c₂.put_text-a in
     let b = c₃.put_text in
-    let spelt : take d.result d.new.1.0 ≡ decimal_in 19 s.args.n =
-    d.ensures.1.1 ∙ digits_decimal s.args.n d.result s.ranges.n d.ensures.1.0
+    let spelt : take d.result d.new.out ≡ decimal_in 19 s.args.n =
+    d.ensures.1.1.0 ∙ digits_decimal s.args.n d.result s.ranges.n d.ensures.1.0
     in
-    let space : Put s.args.line.now a.new.0 s.args.at a.result (32 ∷ []) = as_put a.ensures in
-    let number : Put a.new.0 b.new.0 a.result b.result (decimal_in 19 s.args.n) =
+    let space : Put s.args.line.now a.new.line s.args.at a.result (32 ∷ []) = as_put a.ensures in
+    let number : Put a.new.line b.new.line a.result b.result (decimal_in 19 s.args.n) =
     rw (← spelt) (as_put b.ensures)
     in
     let both = put_more space number in
@@ -35,5 +35,4 @@ put_figure_spec =
     -- the digits
     (λ c κs. search rules)
     -- a space, and the digits behind it
-    (λ c. search rules) (λ c κs. search rules)
-    (λ c. search rules) (λ c. search rules) (λ c κs. search rules) (λ c. search rules) returns)
+    (λ c κs. search rules) (λ c. search rules) (λ c. search rules) (λ c κs. search rules) (λ c. search rules) returns)

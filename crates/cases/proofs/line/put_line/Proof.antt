@@ -16,9 +16,9 @@ returns c =
     let a = c₁.put_text-a in
     let b = c₂.put_figures-b in
     let e = c₃.put_text in
-    let word : Put s.line.now a.new.0 0 a.result s.word.now = as_put a.ensures in
-    let numbers : Put a.new.0 b.new.0 a.result b.result (figures s.numbers.now) = as_put b.ensures in
-    let end : Put b.new.0 e.new.0 b.result e.result (10 ∷ []) = as_put e.ensures in
+    let word : Put s.line.now a.new.line 0 a.result s.word.now = as_put a.ensures in
+    let numbers : Put a.new.line b.new.line a.result b.result (figures s.numbers.now) = as_put b.ensures in
+    let end : Put b.new.line e.new.line b.result e.result (10 ∷ []) = as_put e.ensures in
     let whole = put_more word (put_more numbers end) in
     (put_first whole, put_counts whole)
 
@@ -29,4 +29,4 @@ put_line_spec =
     -- the word and the numbers
     (λ c κs. search rules) (λ c κs. search rules)
     -- the line feed
-    (λ c. search rules) (λ c κs. search rules) (λ c. search rules) returns)
+    (λ c κs. search rules) (λ c. search rules) returns)
