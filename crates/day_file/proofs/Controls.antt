@@ -17,7 +17,7 @@ read =
       ends_later = refl;
       setup_last = refl;
       setups = (refl, refl, refl, refl, refl);
-      refused-setup = (refl, refl);
+      refused_setup = (refl, refl);
     }
 
 pub wrote : Wrote
@@ -27,8 +27,8 @@ wrote =
       p11 = (refl, refl, refl);
       low_byte_first = refl;
       ends = (refl, refl);
-      too_long_lem = (refl, refl, refl);
-      no_room_lem = (refl, refl, refl);
+      is_too_long = (refl, refl, refl);
+      lacks_room = (refl, refl, refl);
       odd = (refl, refl);
       setups_first = (refl, refl, refl, refl, refl);
       refused = (refl, refl);

@@ -47,7 +47,7 @@ pub record Read : Type 0 where
       × (file_answer (contents 0 64 16 9 2) ≡ 3)
       × (file_answer (contents 0 64 16 2 9) ≡ 4)
       × (file_answer (contents 0 64 16 2 3) ≡ 5)
-  pub refused-setup : (read_setup (contents 2 64 16 2 3 ++ request 0) ≡ done 5 blank) × (read_events (contents 2 64 16 2 3 ++ request 0) ≡ [])
+  pub refused_setup : (read_setup (contents 2 64 16 2 3 ++ request 0) ≡ done 5 blank) × (read_events (contents 2 64 16 2 3 ++ request 0) ≡ [])
 
 pub record Wrote : Type 0 where
   -- P11's file, in a buffer of 51 bytes
@@ -60,12 +60,12 @@ pub record Wrote : Type 0 where
   -- the setup, the bytes of the list and of the buffer: no events, and the most
   pub ends : (write_answer (plain 2 1 1 1) 0 27 ≡ 0) × (write_answer (plain 2 1 1 1) 32740 32767 ≡ 0)
   -- the file would pass 32,768 bytes, whatever the buffer; and a list of a megabyte
-  pub too_long_lem :
+  pub is_too_long :
       (write_answer (plain 2 1 1 1) 32742 32769 ≡ 16)
       × (write_answer (plain 2 1 1 1) 32742 0 ≡ 16)
       × (write_answer (plain 2 1 1 1) 1048576 1048603 ≡ 16)
   -- the buffer is a byte short, and of length 0
-  pub no_room_lem :
+  pub lacks_room :
       (write_answer (plain 2 1 1 1) 22 48 ≡ 17)
       × (write_answer (plain 2 1 1 1) 32740 32766 ≡ 17)
       × (write_answer (plain 2 1 1 1) 0 0 ≡ 17)

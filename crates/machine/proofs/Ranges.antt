@@ -1,6 +1,6 @@
 -- A state is in range exactly when each of its numbers is, as facts with a name: the tests read one by one, both ways.
 --     numbers_of, limits_of, closed_of, answer_of     the setup's numbers, against refusals 1 to 5, 19 and 20
---     ranges_of, in_range_lem      a state's numbers, against `inRange`
+--     ranges_of, in_range_lem      a state's numbers, against `in_range`
 -- Assumes nothing.
 use mathlib.Core.List.{List}
 use Prim.Native.Nat.{ℕ, ◌+◌, ◌*◌, ◌^◌, ◌≤◌, ◌<◌}
@@ -124,13 +124,13 @@ module _ (c : Setup) (m : ℕ) where
   name_of true e h d =
       record {
         below = ltb-true m (names c) (and_left (ltb m (names c)) (is_open c m) e);
-        is_open_lem = and_right (ltb m (names c)) (is_open c m) e;
+        not_closed = and_right (ltb m (names c)) (is_open c m) e;
       }
   name_of false e h d = absurd (d (eqb-true m none h))
 
   name_in : (t : Bool) → eqb m none ≡ t → ((m ≡ none → ⊥) → OpenName c m) → name_test c m ≡ true
   name_in true e h = rw e (or-true (ltb m (names c) && is_open c m))
-  name_in false e h = let k = h (eqb-false m none e) in rw (lt-ltb m (names c) k.below, k.is_open_lem)
+  name_in false e h = let k = h (eqb-false m none e) in rw (lt-ltb m (names c) k.below, k.not_closed)
 
 -- the closed bits of a word, one by one
 module _ (c : Setup) (words : List ℕ) (r : ℕ) where

@@ -178,7 +178,7 @@ pub record Controls : Type 0 where
   -- a setup with closed names: 19 after 5, then 20, whatever the order and however often one is named
   pub closed_setups : map (λ ps. (setup (given 1 1 2 1 ps)).answer) closings ≡ 0 ∷ 0 ∷ 0 ∷ 19 ∷ 19 ∷ 20 ∷ 20 ∷ []
   pub numbers_first : setup (given 1 16 8 8 (255 ∷ [])) ≡ done 5 blank
-  pub none_open_lem : setup (given 1 1 2 1 (1 ∷ 0 ∷ [])) ≡ done 20 blank
+  pub no_open_name : setup (given 1 1 2 1 (1 ∷ 0 ∷ [])) ≡ done 20 blank
   -- its number, counters by node, gate word, and the open names below some
   pub closed_number : torn.closed ≡ 225
   pub closed_counters : take 5 (fresh torn).counters ≡ 0 ∷ 4 ∷ 3 ∷ 4 ∷ 0 ∷ []
@@ -187,7 +187,7 @@ pub record Controls : Type 0 where
   -- counters k / 2^(d+1), by node
   pub counters : (fresh (plain 64 16 2 2)).counters ≡ 0 ∷ 32 ∷ 16 ∷ 16 ∷ 8 ∷ 8 ∷ 8 ∷ 8 ∷ 4 ∷ 4 ∷ 4 ∷ 4 ∷ 4 ∷ 4 ∷ 4 ∷ 4 ∷ []
   -- fresh: 0, 1, 0, 255, 0, 0; and 0 where the setup leaves a place unused
-  pub fresh-processes : map numbers (take 3 pair.process)
+  pub fresh_processes : map numbers (take 3 pair.process)
       ≡ (0 ∷ 1 ∷ 0 ∷ 255 ∷ 0 ∷ 0 ∷ []) ∷ (0 ∷ 1 ∷ 0 ∷ 255 ∷ 0 ∷ 0 ∷ []) ∷ replicate 6 0 ∷ []
   pub fresh_unused : (pair.counters ≡ 0 ∷ 1 ∷ replicate 14 0) × (pair.words ≡ replicate 64 0) × (pair.queue ≡ replicate 64 0)
   -- filled from node L - 1 up to node 1, for counts from 0 on

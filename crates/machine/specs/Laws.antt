@@ -22,7 +22,7 @@ pub record Laws : Type 0 where
   -- node 1 has depth 0; children 2v and 2v + 1 lie one level below node v
   pub root_depth : depth 1 ≡ 0
   pub left_depth : (v : ℕ) → 0 < v → v < 16 → depth (2 * v) ≡ depth v + 1
-  pub right-depth : (v : ℕ) → 0 < v → v < 16 → depth (2 * v + 1) ≡ depth v + 1
+  pub right_depth : (v : ℕ) → 0 < v → v < 16 → depth (2 * v + 1) ≡ depth v + 1
   -- set_first_zero answers the index of a clear bit that is not closed, and every such bit below it is set
   pub answer_clear : (b x w : ℕ) → first_zero b x w < b → bit w (first_zero b x w) ≡ 0
   pub answer_open : (b x w : ℕ) → first_zero b x w < b → bit x (first_zero b x w) ≡ 0
@@ -40,26 +40,26 @@ pub record Laws : Type 0 where
   pub closed_bits : (c : Setup) (r i : ℕ) → i < c.bits → bit (closed_word c r) i ≡ bit c.closed (r * c.bits + i)
   -- a setup with an empty list is that of the four numbers, where 19 and 20 never come; with none closed the gate word starts at k, a
   -- counter at k / 2^(d+1), and the open names below a name are all below it
-  pub none-listed : (n l g b : ℕ) → given n l g b [] ≡ plain n l g b
+  pub none_listed : (n l g b : ℕ) → given n l g b [] ≡ plain n l g b
   pub plain_answer : (n l g b : ℕ) → setup_answer (plain n l g b) ≡ number_answer (plain n l g b)
   pub plain_gate : (n l g b : ℕ) → open_names (plain n l g b) ≡ names (plain n l g b)
   pub plain_counter : (n l g b v : ℕ) → is_leaves l ≡ true → 0 < v → v < l
       → fresh_counter (plain n l g b) v ≡ names (plain n l g b) / 2 ^ (depth v + 1)
-  pub plain-rank : (n l g b p : ℕ) → rank (plain n l g b) p ≡ p
+  pub plain_rank : (n l g b p : ℕ) → rank (plain n l g b) p ≡ p
   -- a setup answers 0 or its refusal's number; it gives the fresh state or, refused, the blank one
-  pub setup_answer_lem : (c : Setup) → (setup c).answer ≡ setup_answer c
-  pub accepted-setup : (c : Setup) → setup_answer c ≡ 0 → setup c ≡ done 0 (fresh c)
-  pub refused-setup : (c : Setup) → setup_answer c ≢ 0 → setup c ≡ done (setup_answer c) blank
+  pub answer_of_setup : (c : Setup) → (setup c).answer ≡ setup_answer c
+  pub accepted_setup : (c : Setup) → setup_answer c ≡ 0 → setup c ≡ done 0 (fresh c)
+  pub refused_setup : (c : Setup) → setup_answer c ≢ 0 → setup c ≡ done (setup_answer c) blank
   -- the fresh state of every accepted setup is in range, its arrays of their lengths; the blank state is not in range
   pub fresh_state : (c : Setup) → setup_answer c ≡ 0 → in_range (fresh c) ≡ true
   pub fresh_lengths : (c : Setup) → Sized (fresh c)
   pub blank_state : in_range blank ≡ false
   -- the second form of the setup answers as the setup does, whatever the count
   pub partial_answer : (c : Setup) (count : ℕ) → (partial_setup c count).answer ≡ setup_answer c
-  pub accepted-partial : (c : Setup) (count : ℕ) → setup_answer c ≡ 0 → partial_setup c count ≡ done 0 (partial c count)
-  pub refused-partial : (c : Setup) (count : ℕ) → setup_answer c ≢ 0 → partial_setup c count ≡ done (setup_answer c) blank
+  pub accepted_partial : (c : Setup) (count : ℕ) → setup_answer c ≡ 0 → partial_setup c count ≡ done 0 (partial c count)
+  pub refused_partial : (c : Setup) (count : ℕ) → setup_answer c ≢ 0 → partial_setup c count ≡ done (setup_answer c) blank
   -- from a count of L - 1 on it is the setup, number for number
-  pub partial-whole : (c : Setup) (count : ℕ) → c.leaves ≤ count + 1 → partial_setup c count ≡ setup c
+  pub partial_whole : (c : Setup) (count : ℕ) → c.leaves ≤ count + 1 → partial_setup c count ≡ setup c
   -- from node L - 1 up to node 1: a count more fills the counter of node L - 1 - count, and changes no other number
   pub partial_next : (c : Setup) (count : ℕ) → setup_answer c ≡ 0 → count + 1 < c.leaves
       → partial c (count + 1)

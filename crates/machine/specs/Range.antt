@@ -78,7 +78,7 @@ in_range s = all_of (range_tests s)
 -- a name below k that is open
 pub record OpenName (c : Setup) (m : ℕ) : Type 0 where
   pub below : m < names c
-  pub is_open_lem : is_open c m ≡ true
+  pub not_closed : is_open c m ≡ true
 
 -- A process's numbers in the ranges of a setup: `process_tests` as facts with a name.
 pub record ProcessRanges (c : Setup) (h : Process) : Type 0 where

@@ -85,17 +85,17 @@ module _ (c : Setup) (accepted : setup_answer c ≡ 0) where
   holds es =
       record {
         admitted_open = omega (arith, subst (λ (d : Setup). admitted (t es) ≤ open_names d) (setup_is es) (admitted_few (t es) (sound es)));
-        held_open = λ p k e. (held es p k e).is_open_lem;
+        held_open = λ p k e. (held es p k e).not_closed;
         held_below = λ p k e. omega (arith, (held es p k e).below);
         held_unlike = λ p q k j d e f. names_unlike (one es p k) e q (known es q j) d;
-        none-exhausted = λ p k. not-exhausted (one es p k);
+        none_exhausted = λ p k. not-exhausted (one es p k);
         held_low = λ m few p k e.
             omega (arith, subst (λ (d : Setup). rank d (process_at (t es) p).name < m) (setup_is es) (name_low (low es p k m few) e));
         steps_counted = steps_are es;
         returns_counted = returns_are es;
         steps_least = λ p k e. omega (arith, least_steps (one es p k) e, height_is es);
         steps_most = λ p k e. omega (arith, most_steps_lem (one es p k), most_is es);
-        round-claimed = λ p k e a. omega (arith, (round es p k e a).claimed, height_is es);
+        round_claimed = λ p k e a. omega (arith, (round es p k e a).claimed, height_is es);
         round_cleared = λ p k e a. (round es p k e a).cleared;
         shows_least = λ p k e a. omega (arith, (round es p k e a).claimed, (round es p k e a).cleared, height_is es);
         shows_most = λ p k e a. omega (arith, most_steps_lem (one es p k), (round es p k e a).most, height_is es, most_is es);

@@ -37,7 +37,7 @@ module _ (c : Setup) (state_after : List Event → State) where
         → (process_after es q).stage ≡ working
         → (process_after es p).name ≢ (process_after es q).name
     -- No handset is astray.
-    pub none-exhausted : (p : ℕ) → p < c.processes → (process_after es p).stage ≢ exhausted
+    pub none_exhausted : (p : ℕ) → p < c.processes → (process_after es p).stage ≢ exhausted
     -- If at no moment in the list (its start, and directly after each event) were more than m let in, every held pad is among the m lowest
     -- open ones (document 02, e): fewer than m open ones lie below it.
     pub held_low : (m : ℕ) → ((i : ℕ) → i ≤ length es → admitted (state_after (take i es)) ≤ m)
@@ -51,7 +51,7 @@ module _ (c : Setup) (state_after : List Event → State) where
     pub steps_most : (p : ℕ) → p < c.processes → (process_after es p).stage ≡ working
         → (process_after es p).steps ≤ height c.leaves + c.segments
     -- An idle handset with an accepted ask behind it has made a full round: it claimed as a holder does, and cleared its bit.
-    pub round-claimed : (p : ℕ) → p < c.processes → (process_after es p).stage ≡ remainder → asked p (fresh c) es ≡ true
+    pub round_claimed : (p : ℕ) → p < c.processes → (process_after es p).stage ≡ remainder → asked p (fresh c) es ≡ true
         → height c.leaves + 1 ≤ (process_after es p).steps
     pub round_cleared : (p : ℕ) → p < c.processes → (process_after es p).stage ≡ remainder → asked p (fresh c) es ≡ true
         → 1 ≤ (process_after es p).returns

@@ -43,7 +43,7 @@ module _ (c : Setup) (f f' : List Event → State) (es : List Event) (e : f es �
         held_unlike = λ p q k j d.
             across (λ s. (process_at s p).stage ≡ working → (process_at s q).stage ≡ working → (process_at s p).name ≢ (process_at s q).name)
             (a.held_unlike p q k j d);
-        none-exhausted = λ p k. across (λ s. (process_at s p).stage ≢ exhausted) (a.none-exhausted p k);
+        none_exhausted = λ p k. across (λ s. (process_at s p).stage ≢ exhausted) (a.none_exhausted p k);
         held_low = λ m few p k.
             across (λ s. (process_at s p).stage ≡ working → rank c (process_at s p).name < m)
             (a.held_low m (λ i j. subst (λ (s : State). admitted s ≤ m) (sym (prefixes i)) (few i j)) p k);
@@ -53,7 +53,7 @@ module _ (c : Setup) (f f' : List Event → State) (es : List Event) (e : f es �
         steps_least = λ p k.
             across (λ s. (process_at s p).stage ≡ working → height c.leaves + 1 ≤ (process_at s p).steps) (a.steps_least p k);
         steps_most = λ p k. across (λ s. (process_at s p).stage ≡ working → (process_at s p).steps ≤ most) (a.steps_most p k);
-        round-claimed = λ p k. rested p (λ h. height c.leaves + 1 ≤ h.steps) (a.round-claimed p k);
+        round_claimed = λ p k. rested p (λ h. height c.leaves + 1 ≤ h.steps) (a.round_claimed p k);
         round_cleared = λ p k. rested p (λ h. 1 ≤ h.returns) (a.round_cleared p k);
         shows_least = λ p k. rested p (λ h. height c.leaves + 2 ≤ figure h) (a.shows_least p k);
         shows_most = λ p k. rested p (λ h. figure h ≤ 2 * height c.leaves + c.segments + 1) (a.shows_most p k);

@@ -132,7 +132,7 @@ module _ (κs : Lfts 1) (n leaves g b : ℕ) (d : Done) (out out' : MutBor (List
         figure = figure_is;
         most = most;
         shows = shows;
-        refused-setup = λ r. (refused (by_setup r) r).0;
+        refused_setup = λ r. (refused (by_setup r) r).0;
         refused_buffer = λ a k. (refused (by_buffer a k) (λ z. omega arith)).0;
         unwritten = λ r. (refused refl (λ z. r (answer_is ∙ z))).1;
         short = short (ℕ_discrete l.answer 0);

@@ -41,7 +41,7 @@ partial_setups n l g b count d₀ d set part =
             setup_counter a 1 (omega arith) (omega arith),
             above_0 a 1 (omega arith) (omega arith),
           );
-      in_range_lem = ranged;
+      within_ranges = ranged;
       carried_out = λ a r l even room. l.ran.0 ∙ run_carried_out d.state l.bytes.now l.journal.now even room (ranged a);
     }
   where

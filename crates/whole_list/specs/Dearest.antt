@@ -41,7 +41,7 @@ pub record Produced (c : Setup) (d : Done) (out : List ℕ) (l : DearestList) (o
       → run.bytes.now ≡ take l.size out' → 2 * l.size ≤ length run.journal.now
       → (r.answer ≡ 0) × Holder c r.state l.figure
   -- 18 when the lent buffer is under 4,096 bytes, after 1 to 5: refused, the figure and the length are 0, and nothing is written.
-  pub refused-setup : d.answer ≢ 0 → l ≡ dearest_of d.answer 0 0
+  pub refused_setup : d.answer ≢ 0 → l ≡ dearest_of d.answer 0 0
   pub refused_buffer : d.answer ≡ 0 → length out < 4096 → l ≡ dearest_of small_buffer 0 0
   pub unwritten : l.answer ≢ 0 → out' ≡ out
   -- The list made is never longer,

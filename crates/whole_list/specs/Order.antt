@@ -29,7 +29,7 @@ pub record Ordered (c : Setup) (count : ℕ) (d₀ d : Done) : Type 0 where
   -- From a smaller count's state no list statement starts: it is not the setup's,
   pub smaller : d₀.answer ≡ 0 → count + 1 < c.leaves → d.state ≢ d₀.state
   -- but it is in range, so that every call answers it by the machine: a list that is even, with room for its journal, is carried out.
-  pub in_range_lem : d₀.answer ≡ 0 → in_range d.state ≡ true
+  pub within_ranges : d₀.answer ≡ 0 → in_range d.state ≡ true
   pub carried_out : d₀.answer ≡ 0 → (r : Done) (l : ListCall d.state r)
       → length l.bytes.now % 2 ≡ 0 → journal_length l.bytes.now ≤ length l.journal.now
       → r ≡ done 0 (after d.state (listed l))

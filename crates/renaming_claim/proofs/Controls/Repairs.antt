@@ -17,5 +17,5 @@ repairs =
       right_root_then_bit = refl;
       right_last_gap = refl;
       right_gate_first = refl;
-      right-right_at_one = refl;
+      right_right_at_one = refl;
     }

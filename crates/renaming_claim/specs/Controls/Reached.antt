@@ -87,7 +87,7 @@ pub record Reached : Type 0 where
   -- with leaf, segment and half closed: the counters are the open names on their left, and the gate is open for two
   pub torn_start : (take 4 (fresh torn).counters ≡ 0 ∷ 2 ∷ 0 ∷ 0 ∷ []) × ((fresh torn).gate ≡ pos 2)
   -- left past the right half, right past leaf 0, on past segment 0: both open names are held, and the third waits
-  pub torn-journal : journal (fresh torn) all_held
+  pub torn_journal : journal (fresh torn) all_held
       ≡ line 0 entry none 0
       ++ line 0 getname none 0
       ++ line 0 getname none 1
@@ -102,13 +102,13 @@ pub record Reached : Type 0 where
       ++ line 0 working 7 4
       ++ line 0 entry none 0
       ++ line 0 waiting none 0
-  pub torn-admitted : admitted (after_list torn all_held) ≡ open_names torn
+  pub torn_admitted : admitted (after_list torn all_held) ≡ open_names torn
   -- with two admitted the two lowest open names are held: 1 and 3, with none and one open below them, though 3 is not below 2
   pub lowest_held : map (λ p. (process_at (after_list gapped lowest) p).name) (0 ∷ 1 ∷ []) ≡ 1 ∷ 3 ∷ []
   pub lowest_ranks : map (rank gapped) (1 ∷ 3 ∷ []) ≡ 0 ∷ 1 ∷ []
-  pub lowest-admitted : admitted (after_list gapped lowest) ≡ 2
+  pub lowest_admitted : admitted (after_list gapped lowest) ≡ 2
   -- the dearest round, by the left, shows 2h + g + 1; the cheapest, by the right, shows h + 2; process 0 is still working
-  pub round-journal : drop 44 (journal (fresh (plain 3 2 2 1)) rounds)
+  pub round_journal : drop 44 (journal (fresh (plain 3 2 2 1)) rounds)
       ≡ line 0 getname none 1
       ++ line 0 working 2 2
       ++ line 0 putname 1 3
@@ -119,12 +119,12 @@ pub record Reached : Type 0 where
       ++ line 0 putname none 3
       ++ line 0 putname none 3
       ++ line 0 remainder none 3
-  pub round-figures : (2 * height 2 + 2 + 1 ≡ 5) × (height 2 + 2 ≡ 3)
+  pub round_figures : (2 * height 2 + 2 + 1 ≡ 5) × (height 2 + 2 ≡ 3)
   pub round_parts : map (λ p. return_operations p (fresh (plain 3 2 2 1)) rounds 0) (0 ∷ 1 ∷ 2 ∷ []) ≡ 0 ∷ 2 ∷ 1 ∷ []
   -- after four events process 0 has asked, and 1, still idle, has not
-  pub round-asked : map (λ p. asked p (fresh (plain 3 2 2 1)) (take 4 rounds)) (0 ∷ 1 ∷ []) ≡ true ∷ false ∷ []
+  pub round_asked : map (λ p. asked p (fresh (plain 3 2 2 1)) (take 4 rounds)) (0 ∷ 1 ∷ []) ≡ true ∷ false ∷ []
   -- the drawing: 0 holds name 0; 1 and 2 are in getname, at segment 1 of the left leaf and at the right leaf; 3 has just come in; 4 waits
-  pub drawn-journal : map (λ p. status_of (process_at (after_list (plain 5 2 2 1) drawn) p)) (0 ∷ 1 ∷ 2 ∷ 3 ∷ 4 ∷ [])
+  pub drawn_journal : map (λ p. status_of (process_at (after_list (plain 5 2 2 1) drawn) p)) (0 ∷ 1 ∷ 2 ∷ 3 ∷ 4 ∷ [])
       ≡ record { stage = working; name = 0; figure = 2 }
       ∷ record { stage = getname; name = none; figure = 2 }
       ∷ record { stage = getname; name = none; figure = 1 }
@@ -133,7 +133,7 @@ pub record Reached : Type 0 where
       ∷ []
   pub drawn_gate : ((after_list (plain 5 2 2 1) drawn).gate ≡ negsuc 0) × (admitted (after_list (plain 5 2 2 1) drawn) ≡ 4)
   pub drawn_nodes : map (λ p. (process_at (after_list (plain 5 2 2 1) drawn) p).node) (0 ∷ 1 ∷ 2 ∷ 3 ∷ 4 ∷ []) ≡ 2 ∷ 2 ∷ 3 ∷ 1 ∷ 1 ∷ []
-  pub drawn-segments : map (λ p. (process_at (after_list (plain 5 2 2 1) drawn) p).segment) (0 ∷ 1 ∷ 2 ∷ 3 ∷ 4 ∷ []) ≡ 0 ∷ 1 ∷ 0 ∷ 0 ∷ 0 ∷ []
+  pub drawn_segments : map (λ p. (process_at (after_list (plain 5 2 2 1) drawn) p).segment) (0 ∷ 1 ∷ 2 ∷ 3 ∷ 4 ∷ []) ≡ 0 ∷ 1 ∷ 0 ∷ 0 ∷ 0 ∷ []
   pub drawn_queue : ((after_list (plain 5 2 2 1) drawn).queued ≡ 1) × (take 1 (after_list (plain 5 2 2 1) drawn).queue ≡ 4 ∷ [])
   pub drawn_places : (counter_at (after_list (plain 5 2 2 1) drawn) 1 ≡ 0)
       × (take 4 (after_list (plain 5 2 2 1) drawn).words ≡ 1 ∷ 0 ∷ 0 ∷ 0 ∷ [])

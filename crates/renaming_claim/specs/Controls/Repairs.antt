@@ -130,32 +130,32 @@ root_first =
     ++ wins 1 ++ step 1
     ++ wins 2 ++ step 2)
 
-abbrev pub root_then_bit_lem : List Event
-root_then_bit_lem = events_of (wins 0 ++ release 0 ++ step 0 ++ wins 1)
+abbrev pub root_then_bit_events : List Event
+root_then_bit_events = events_of (wins 0 ++ release 0 ++ step 0 ++ wins 1)
 
-abbrev pub last_gap_lem : List Event
-last_gap_lem =
+abbrev pub last_gap_events : List Event
+last_gap_events =
     events_of
     (request 0 ++ step 0 ++ step 0 ++ release 0 ++ request 1 ++ step 1 ++ step 1 ++ step 0 ++ step 0
     ++ request 0 ++ step 0 ++ step 1 ++ step 0)
 
-abbrev pub gate_first_lem : List Event
-gate_first_lem = events_of (request 0 ++ step 0 ++ step 0 ++ release 0 ++ step 0 ++ request 1 ++ step 1)
+abbrev pub gate_first_events : List Event
+gate_first_events = events_of (request 0 ++ step 0 ++ step 0 ++ release 0 ++ step 0 ++ request 1 ++ step 1)
 
-abbrev pub right_at_one_lem : List Event
-right_at_one_lem = events_of (wins 0 ++ wins 1)
+abbrev pub right_at_one_events : List Event
+right_at_one_events = events_of (wins 0 ++ wins 1)
 
 pub record Repairs : Type 0 where
   pub no_root_first : (process_at (run bit_then_root (fresh (plain 3 4 1 1)) root_first) 2).stage ≡ exhausted
-  pub no_root_then_bit : (process_at (run root_then_bit (fresh (plain 2 2 1 1)) root_then_bit_lem) 1).stage ≡ exhausted
-  pub no_last_gap : (process_at (run last_gap (fresh (plain 2 1 2 1)) last_gap_lem) 0).stage ≡ exhausted
+  pub no_root_then_bit : (process_at (run root_then_bit (fresh (plain 2 2 1 1)) root_then_bit_events) 1).stage ≡ exhausted
+  pub no_last_gap : (process_at (run last_gap (fresh (plain 2 1 2 1)) last_gap_events) 0).stage ≡ exhausted
   -- while name 0 is free
-  pub no_last_gap_free : word_at (run last_gap (fresh (plain 2 1 2 1)) last_gap_lem) 0 ≡ 0
-  pub no_gate_first : admitted (run gate_first (fresh (plain 2 1 1 1)) gate_first_lem) ≡ 2
-  pub no_right_at_one : (process_at (run right_at_one (fresh (plain 2 2 1 1)) right_at_one_lem) 1).stage ≡ exhausted
+  pub no_last_gap_free : word_at (run last_gap (fresh (plain 2 1 2 1)) last_gap_events) 0 ≡ 0
+  pub no_gate_first : admitted (run gate_first (fresh (plain 2 1 1 1)) gate_first_events) ≡ 2
+  pub no_right_at_one : (process_at (run right_at_one (fresh (plain 2 2 1 1)) right_at_one_events) 1).stage ≡ exhausted
   -- on the same lists document 01's machine wins, waits or is still on its way
   pub right_root_first : (process_at (run right (fresh (plain 3 4 1 1)) root_first) 2).stage ≡ working
-  pub right_root_then_bit : (process_at (run right (fresh (plain 2 2 1 1)) root_then_bit_lem) 1).stage ≡ working
-  pub right_last_gap : (process_at (run right (fresh (plain 2 1 2 1)) last_gap_lem) 0).stage ≡ working
-  pub right_gate_first : admitted (run right (fresh (plain 2 1 1 1)) gate_first_lem) ≡ 1
-  pub right-right_at_one : (process_at (run right (fresh (plain 2 2 1 1)) right_at_one_lem) 1).stage ≡ working
+  pub right_root_then_bit : (process_at (run right (fresh (plain 2 2 1 1)) root_then_bit_events) 1).stage ≡ working
+  pub right_last_gap : (process_at (run right (fresh (plain 2 1 2 1)) last_gap_events) 0).stage ≡ working
+  pub right_gate_first : admitted (run right (fresh (plain 2 1 1 1)) gate_first_events) ≡ 1
+  pub right_right_at_one : (process_at (run right (fresh (plain 2 2 1 1)) right_at_one_events) 1).stage ≡ working

@@ -62,8 +62,8 @@ module _ (c : tie.After-open_of) where
   answered true e = sym (numbers_passed s (passed numbers) ∙ rw (inside c.before, e))
   answered false e = sym (numbers_passed s (passed numbers) ∙ rw (inside c.before, e))
 
-none_open_lem : tie.Need-returns-then-open_of-eq0
-none_open_lem c = answered c.before false (le-ltb 0 (open_names (s c.before)) (omega (arith, opened c.before, c.if-open_of-eq0.true)))
+no_open_name : tie.Need-returns-then-open_of-eq0
+no_open_name c = answered c.before false (le-ltb 0 (open_names (s c.before)) (omega (arith, opened c.before, c.if-open_of-eq0.true)))
 
 accepted : tie.Need-returns
 accepted c = answered c.before true (lt-ltb 0 (open_names (s c.before)) (omega (arith, opened c.before, c.if-open_of-eq0.false)))
@@ -77,4 +77,4 @@ setup_answer_spec =
     -- a closed name from k on
     product-requires (λ c. omega (arith, names-small c)) (λ c κs. names-small c) outside
     -- no open name, or one
-    (λ c κs. (names-small c.before.before, rw c.before.before.product-k.ensures (ltb-true _ _ (inside c)))) none_open_lem accepted)
+    (λ c κs. (names-small c.before.before, rw c.before.before.product-k.ensures (ltb-true _ _ (inside c)))) no_open_name accepted)

@@ -71,7 +71,7 @@ module _ (s : State) (p : ℕ) (k : Ranges s) (kp : p < s.setup.processes) (size
         node = h.node;
         segment = h.segment;
         name = λ _.
-            let low : m < s.setup.bits = ltb-true m s.setup.bits e in record { below = digits_lt l low; is_open_lem = o low };
+            let low : m < s.setup.bits = ltb-true m s.setup.bits e in record { below = digits_lt l low; not_closed = o low };
         shown = h.shown;
       })
       (λ _.

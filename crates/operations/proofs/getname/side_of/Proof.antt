@@ -8,7 +8,7 @@ pub side_of_spec : {M : Type 1} → statement M
 side_of_spec =
     tie.close
     (tie.spec
-    -- left; what the right node rules
+    -- left; what the right node needs
     (λ c. search rules) (λ c. search rules) (λ c. search rules) (λ c. unfold side in search tests)
     -- right
     (λ c. unfold side in search tests))

@@ -17,7 +17,7 @@ pub step_place_spec : {M : Type 1} → statement M
 step_place_spec =
     tie.close
     (tie.spec
-    -- GETNAME: the counter; what the segment's number rules
+    -- GETNAME: the counter; what the segment's number needs
     (λ c. at_stage _ _ c.before.before.before.in-3.is (unfold step_place in search tests))
     (λ c. omega (arith, small c.before.before.before)) (λ c. omega (arith, small c.before.before.before.before))
     -- PUTNAME: the name's bit; up from the left; up from the right

@@ -16,8 +16,8 @@ invariant-loop journal room i₀ left₀ i left =
 abbrev decreases-loop : tie.decreases-loop-i
 decreases-loop journal room i₀ left₀ i left = length journal - i
 
-too_long_lem : tie.Need-returns-then-left-size invariant-loop decreases-loop
-too_long_lem c =
+is_too_long : tie.Need-returns-then-left-size invariant-loop decreases-loop
+is_too_long c =
     let t = c.before.before in
     let l = t.before.loop-i in
     let a = t.before.before.before.args in
@@ -46,7 +46,7 @@ fits_spec =
     -- before the loop
     (λ c. (omega arith, refl))
     -- a line's size, and no room for it
-    (λ c. c.loop-i.invariant.0) (λ c κs. omega (arith, c.loop-i-test.true, c.before.loop-i.invariant.0)) too_long_lem
+    (λ c. c.loop-i.invariant.0) (λ c κs. omega (arith, c.loop-i-test.true, c.before.loop-i.invariant.0)) is_too_long
     -- the next entry
     (λ c. omega (arith, c.before.before.loop-i-test.true, c.before.before.before.loop-i.invariant.0))
     (λ c. omega (arith, c.before.before.loop-i-test.true)) loop-again
