@@ -1,4 +1,4 @@
-/* The pad claim of the finish box, for C on x86-64 Linux. Links with libzevgorim.a, which `rt staticlib zevgorim` writes.
+/* The pad claim of the finish box, for C on x86-64 Linux. Links with libzevgorim.a, which tests/build writes.
  *
  * A process is a recorder's handset, a name is a pad. The box's own words stand beside ours below, in brackets.
  * docs/MACHINE.md has the machine, the formats and the numbers. c/live.c is a box at work, c/day.c hands its day over as a day file,
@@ -41,8 +41,9 @@
  *
  * Platform
  *
- *   - x86-64 Linux, System V ABI, on any x86-64 processor: the toolchain compiles for nothing else.
- *   - The archive needs memcpy and memset from outside, and nothing else.
+ *   - x86-64 Linux, System V ABI, on any x86-64 processor: so tests/build asks the toolchain for it. Without --cpu x86-64 it compiles for
+ *     processors with SSE4.2 and POPCNT, and an archive does not look whether it has one.
+ *   - The archive needs memcpy, memmove and memset from outside, and nothing else.
  *   - It keeps nothing between calls: no heap, no static data but constants, no locks, no system calls. Calls may run in several threads
  *     at once, as long as none writes to a buffer that another is lent.
  *   - Stack: the figures ZEVGORIM_STACK_ below.
@@ -115,14 +116,14 @@ enum {
 #define ZEVGORIM_NO_NAME 255
 
 /* Bytes of stack that a call takes below its return address, rounded up. They are measured, not proved: c/stack.c looks how deep a
- * painted stack was written, with the archive as the toolchain compiles it (-O3) and glibc's memcpy and memset, and c/run fails where a
- * call takes more. What the caller's own frame has for the state handed over (552 bytes) and the result (560 bytes) comes on top. */
+ * painted stack was written, with the archive as the toolchain compiles it (-O3) and glibc's memcpy, memmove and memset, and c/run fails
+ * where a call takes more. What the caller's own frame has for the state (552 bytes) and the result (560 bytes) comes on top. */
 enum {
-    ZEVGORIM_STACK_SETUP = 1280, /* setup, partial_setup */
-    ZEVGORIM_STACK_CLOSED_SETUP = 1792,
-    ZEVGORIM_STACK_EVENT = 1280,  /* event, request, step, release, run */
-    ZEVGORIM_STACK_REPORT = 1280, /* gate_report, fill_status */
-    ZEVGORIM_STACK_READ_SETUP = 2432,
+    ZEVGORIM_STACK_SETUP = 1408, /* setup, partial_setup */
+    ZEVGORIM_STACK_CLOSED_SETUP = 1920,
+    ZEVGORIM_STACK_EVENT = 3712,  /* event, request, step, release, run */
+    ZEVGORIM_STACK_REPORT = 1408, /* gate_report, fill_status */
+    ZEVGORIM_STACK_READ_SETUP = 2560,
     ZEVGORIM_STACK_SMALL = 128, /* file_answer, read_events, write_file, journal_text, dearest_list */
     ZEVGORIM_STACK_FILE_TEXT = 69632
 };
