@@ -12,7 +12,7 @@ pub(crate) struct Filled {
     pub records: [Status; 80],
 }
 
-// Lends the first `count` of 80 records: its own signature has no reference, so that whoever calls it needs no proof by hand.
+// Lends the first `count` of 80 records, and answers with all of them.
 pub(crate) fn fill_first(state: State, list: [Status; 80], count: usize) -> Filled
     requires { count ≤ 80 }
     ensures { (result.answer ≡ status_answer state (take count list))
