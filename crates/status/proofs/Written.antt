@@ -1,9 +1,8 @@
--- The status records while they are filled, by induction on the records written; and what an answer of 0, or another, says of it.
+-- The status records while they are filled, by induction on the records written; and what an answer of 0 says of it.
 --     written-length       a list with i records written is as long as it was
 --     written_more         one more record stored is one more written
 --     accepted             answered 0, the processes are at most 64, the list has room for them, and each figure is a byte
 --     accepted_list        answered 0, the list at exit has all its records written
---     refused_list         answered anything else, it is as it was
 -- Assumes nothing.
 use mathlib.Core.List.{List, [], ◌∷◌, ◌++◌, map}
 use Prim.Native.Nat.{ℕ, zero, suc, ◌≤◌, ◌<◌}
@@ -13,7 +12,7 @@ use Rattle.machine.specs.Reports.{status_of, status_checks, status_answer, statu
 use Rattle.machine.specs.State.{figure, process_at}
 use Rattle.machine.specs.declared.State.{State}
 use Rattle.machine.specs.declared.Status.{Status}
-use Rattle.machine.proofs.Facts.Checks.{all_passed, accepted_with, refused_with}
+use Rattle.machine.proofs.Facts.Checks.{all_passed, accepted_with}
 use Rattle.machine.proofs.Ranges.{ranges_of}
 
 -- the first i places of ys hold f of the first i of xs
@@ -48,7 +47,3 @@ module _ (s : State) (records : List Status) where
   pub accepted_list : status_answer s records ≡ 0 → written status_of s.process s.setup.processes records ≡ status_records s records
   unfolding status_answer status_records
   accepted_list e = sym (accepted_with (status_checks s records) (λ a. records) _ refl e)
-
-  pub refused_list : (status_answer s records ≡ 0 → ⊥) → records ≡ status_records s records
-  unfolding status_answer status_records
-  refused_list d = sym (refused_with (status_checks s records) (λ a. records) _ d)

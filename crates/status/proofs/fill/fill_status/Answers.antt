@@ -1,18 +1,22 @@
 -- Answered 0, the processes are at most 64, the list has room for them, and each record stored is one more written; answered anything else,
 -- the list is as it was.
 use Rattle.std.proofs.Common.{◌≡◌, ℕ, List, length, le_antisymm, ap, refl, sym, ◌∙◌, arith, rules, add-one}
+use Rattle.machine.proofs.Facts.Checks.{refused_with}
 use Rattle.machine.proofs.Facts.Lists.{length_mapped}
-use Rattle.machine.specs.Reports.{status_of}
+use Rattle.machine.specs.Reports.{status_of, status_checks, status_answer, status_records}
 use Rattle.machine.specs.State.{no_process}
 use Rattle.machine.specs.declared.Process.{Process}
-use Rattle.status.proofs.Written.{written, written_more, accepted, accepted_list, refused_list}
+use Rattle.status.proofs.Written.{written, written_more, accepted, accepted_list}
 use Rattle.status.proofs.fill.fill_status.Goals as goal
 
 pub returns-then-answer-ne-ACCEPTED : goal.returns-then-answer-ne-ACCEPTED
+unfolding status_answer status_records
 returns-then-answer-ne-ACCEPTED c =
     let a = c.args in
-    let e = c.status_answer-answer.ensures a.records.now refl in
-    (e, refused_list a.state a.records.now (λ z. c.if-answer-ne-ACCEPTED.true (e ∙ z)))
+    let e = c.status_answer-answer.ensures a.records.now refl in (
+      e,
+      sym (refused_with (status_checks a.state a.records.now) (λ n. a.records.now) _ (λ z. c.if-answer-ne-ACCEPTED.true (e ∙ z))),
+    )
 
 pub bounds-list-i : goal.bounds-list-i
 bounds-list-i c =
@@ -44,6 +48,7 @@ loop-i-preserved c =
     record { within = omega arith; filled = rw (c.status_of.ensures, c.loop-i.invariant.filled, add-one i) more }
 
 pub returns : goal.returns
+unfolding status_records
 returns c =
     let a = c.args in
     let e = sym (c.status_answer-answer.ensures a.records.now refl) ∙ c.if-answer-ne-ACCEPTED.false in
