@@ -1,7 +1,7 @@
 -- One check after another, in their order: each fails or passes as its test does. Assumes nothing.
 use Prim.Native.Nat.{ℕ, ◌≤◌}
 use lib.Dec.{leb}
-use Rattle.machine.proofs.Rules.{◌≡◌, ◌∙◌, sym, true, cond, rules, le-leb, leb-true, lt-leb}
+use Rattle.machine.proofs.Rules.{◌≡◌, ◌∙◌, sym, true, cond, arith, rules, le-leb, leb-true, lt-leb}
 use Rattle.machine.specs.Setup.{within, is_leaves, names, number_answer}
 use Rattle.machine.proofs.Facts.Leaves.{leaves_high}
 use Rattle.machine.proofs.Facts.Tests.{and_right}
@@ -65,12 +65,6 @@ names-decide c =
     let past-n = past-l.before.before in
     rw (n-passes past-n, l-passes past-l, g-passes past-g, b-passes past-b)
 
-returns-5 : tie.Need-returns-then-product-gt64
-returns-5 c = rw (names-decide c.before, lt-leb _ _ (rw c.before.product.ensures at c.if-product-gt64.true))
-
-returns-6 : tie.Need-returns
-returns-6 c = rw (names-decide c.before, le-leb _ 64 (rw c.before.product.ensures at c.if-product-gt64.false))
-
 pub number_answer_spec : {M : Type 1} → statement M
 number_answer_spec =
     tie.close
@@ -84,6 +78,7 @@ number_answer_spec =
     -- `!is_within(1, 8, setup.bits)`
     (λ c κs. search rules) returns-4
     -- `product(setup) > 64`
-    product-requires returns-5
+    product-requires
+    (λ c. rw (names-decide c.before, lt-leb (names c.args.setup) 64 (omega (arith, c.product.ensures))))
     -- otherwise
-    returns-6)
+    (λ c. rw (names-decide c.before, le-leb _ 64 (rw c.product.ensures at c.if-product-gt64.false))))

@@ -1,17 +1,11 @@
 -- `open_names` meets its contract: all names where none is closed, otherwise those that the closed ones leave. Assumes nothing.
-use Rattle.machine.proofs.Rules.{◌∙◌, sym}
+use Rattle.machine.proofs.Rules.{◌∙◌, sym, arith}
 use Rattle.machine.specs.Setup.{names}
 use Rattle.machine.proofs.Laws.Plain.{open_all}
 use Rattle.machine.proofs.Ranges.{limits_of, closed_of}
 use Rattle.fresh.proofs.Counted.{names_open}
 use Rattle.fresh.proofs.limits.open_names.Statement.{statement}
 use Rattle.fresh.proofs.limits.open_names.Tie as tie
-
-returns : tie.Need-returns-then-setup-eq0
-returns c =
-    let named = c.before.before in
-    let s = named.before.args.setup in
-    named.names_of-k.ensures ∙ sym (open_all s c.if-setup-eq0.true 0 (names s))
 
 open-of-requires : tie.Need-open_of-requires
 open-of-requires c κs =
@@ -33,6 +27,6 @@ open_names_spec =
     (tie.spec
     (λ c κs. c.requires)
     -- `setup.closed == 0`
-    returns
+    (λ c. c.names_of-k.ensures ∙ sym (open_all c.args.setup (omega arith) 0 (names c.args.setup)))
     -- otherwise
     open-of-requires returns-2)

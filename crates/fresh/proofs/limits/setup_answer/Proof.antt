@@ -62,12 +62,6 @@ module _ (c : tie.After-open_of) where
   answered true e = sym (numbers_passed s (passed numbers) ∙ rw (inside c.before, e))
   answered false e = sym (numbers_passed s (passed numbers) ∙ rw (inside c.before, e))
 
-no_open_name : tie.Need-returns-then-open_of-eq0
-no_open_name c = answered c.before false (le-ltb 0 (open_names (s c.before)) (omega (arith, opened c.before, c.if-open_of-eq0.true)))
-
-accepted : tie.Need-returns
-accepted c = answered c.before true (lt-ltb 0 (open_names (s c.before)) (omega (arith, opened c.before, c.if-open_of-eq0.false)))
-
 pub setup_answer_spec : {M : Type 1} → statement M
 setup_answer_spec =
     tie.close
@@ -77,4 +71,6 @@ setup_answer_spec =
     -- a closed name from k on
     product-requires (λ c. omega (arith, names-small c)) (λ c κs. names-small c) outside
     -- no open name, or one
-    (λ c κs. (names-small c.before.before, rw c.before.before.product-k.ensures (ltb-true _ _ (inside c)))) no_open_name accepted)
+    (λ c κs. (names-small c.before.before, rw c.before.before.product-k.ensures (ltb-true _ _ (inside c))))
+    (λ c. answered c.before false (le-ltb 0 (open_names (s c.before)) (omega (arith, opened c.before))))
+    (λ c. answered c.before true (lt-ltb 0 (open_names (s c.before)) (omega (arith, opened c.before)))))

@@ -5,20 +5,13 @@ use Rattle.ranges.proofs.GateWord.{too_low, up_to}
 use Rattle.ranges.proofs.range.gate_in_range.Statement.{statement}
 use Rattle.ranges.proofs.range.gate_in_range.Tie as tie
 
-returns : tie.Need-returns-then-a-ltminus64
-returns c = too_low c.before.args.k c.before.args.a (rw (to_z-of_z c.before.ranges.a) at c.if-a-ltminus64.true)
-
-returns-2 : tie.Need-returns
-returns-2 c =
-    let a = c.before.args in
-    let e = to_z-of_z c.before.ranges.a in
-    rw (as_signed a.k c.before.requires, e) (up_to a.k a.a (rw e at c.if-a-ltminus64.false))
-
 pub gate_in_range_spec : {M : Type 1} → statement M
 gate_in_range_spec =
     tie.close
     (tie.spec
     -- `a < -64`
-    (λ c. search rules) returns
+    (λ c. search rules) (λ c. too_low c.args.k c.args.a (rw (← to_z-of_z c.ranges.a) assumption))
     -- otherwise
-    returns-2)
+    (λ c.
+    let e = to_z-of_z c.ranges.a in
+    rw (as_signed c.args.k c.requires, e) (up_to c.args.k c.args.a (rw (← e) assumption))))

@@ -4,19 +4,14 @@ use Rattle.machine.specs.Lists.{run, run_journal}
 use Rattle.renaming.proofs.list.run.Statement.{statement}
 use Rattle.renaming.proofs.list.run.Tie as tie
 
-short : tie.Need-returns-then-journal-events
-unfolding run run_journal
-short c = search tests
-
 returns-3 : tie.Need-returns-then-not-in_range
 unfolding run run_journal
 returns-3 c = search (tests, sym c.before.in_range.ensures ∙ c.if-not-in_range.true)
 
 run-checked-requires : tie.Need-run_checked-after-requires
 run-checked-requires c κs =
-    let long = c.before.before.before in
-    let even = long.before.if-events-ne0.false in
-    (sym c.before.before.in_range.ensures ∙ c.before.if-not-in_range.false, (even, omega (arith, even, long.if-journal-events.false)))
+    let even = c.if-events-ne0.false in
+    (sym c.in_range.ensures ∙ c.if-not-in_range.false, (even, omega (arith, even)))
 
 returns-4 : tie.Need-returns
 unfolding run run_journal
@@ -33,7 +28,7 @@ run_spec =
     -- an odd list
     (λ c. unfold run run_journal in search tests)
     -- a short journal
-    (λ c. search rules) short
+    (λ c. search rules) (λ c. unfold run run_journal in search tests)
     -- a broken state
     (λ c κs. search rules) returns-3
     -- the run
