@@ -19,61 +19,45 @@ module _ (c : tie.Start) where
   node-16 : c.args.v < 16
   node-16 = omega (arith, leaves_16 limits, c.requires.1.1)
 
--- with none closed, all are open
-returns : tie.Need-returns-then-setup-eq0
-returns c =
-    let levelled = c.before.before in
-    let start = levelled.before.before in
-    let v = start.args.v in
-    rw (levelled.before.names_of-k.ensures, levelled.level-d.ensures)
-    (sym (counter_share start.args.setup c.if-setup-eq0.true (limits start).leaves v start.requires.1.0 start.requires.1.1))
-
--- how many names lie under the left child, and where they begin
-module _ (c : tie.Else-setup-eq0) where
-  abbrev start : tie.Start
-  start = c.before.before.before.before
-
+  -- how many names lie under the left child, and where they begin
   abbrev k : ℕ
-  k = names start.args.setup
+  k = names c.args.setup
 
   abbrev v : ℕ
-  v = start.args.v
+  v = c.args.v
 
   abbrev d : ℕ
   d = depth v + 1
 
   begins : (2 * v - 2 ^ d) * (k / 2 ^ d) < 64
-  begins = before_small k v start.requires.1.0 (node-16 start) (limits start).k64
+  begins = before_small k v c.requires.1.0 node-16 limits.k64
 
   few : k / 2 ^ d ≤ 32
-  few = omega (arith, share_small k v start.requires.1.0 (node-16 start), (limits start).k64)
+  few = omega (arith, share_small k v c.requires.1.0 node-16, limits.k64)
 
   starts-low : 2 ^ d ≤ 2 * v
-  starts-low = level_low k v start.requires.1.0 (node-16 start)
+  starts-low = level_low k v c.requires.1.0 node-16
 
 sub-before : tie.Need-overflow_sub-before
-sub-before c = rw (c.before.before.level-d.ensures, power_is_lem (v c) (node-16 (start c))) (starts-low c)
+sub-before c =
+    let start = c.before.before.before.before in
+    rw (c.level-d.ensures, power_is_lem (v start) (node-16 start)) (starts-low start)
 
 mul-closed-in : tie.Need-overflow_mul-before-2
 mul-closed-in c =
-    record {
-      fits =
-          rw (c.before.before.before.names_of-k.ensures, c.before.before.level-d.ensures, power_is_lem (v c) (node-16 (start c)))
-          (omega (arith, begins c));
-    }
+    let start = c.before.before.before.before in
+    record { fits = rw (c.names_of-k.ensures, c.level-d.ensures, power_is_lem (v start) (node-16 start)) (omega (arith, begins start)) }
 
 closed-in-requires : tie.Need-closed_in-requires
 closed-in-requires c κs =
-    rw (c.before.before.before.names_of-k.ensures, c.before.before.level-d.ensures, power_is_lem (v c) (node-16 (start c)))
-    (begins c, few c)
+    let start = c.before.before.before.before in
+    rw (c.names_of-k.ensures, c.level-d.ensures, power_is_lem (v start) (node-16 start)) (begins start, few start)
 
-returns-2 : tie.Need-returns
-returns-2 c =
-    let at = c.before in
-    let levelled = at.before.before in
-    let s = start at in
-    rw (c.closed_in.ensures, levelled.before.names_of-k.ensures, levelled.level-d.ensures, power_is_lem (v at) (node-16 s))
-    (sym (counter_is s.args.setup (limits s) (v at) s.requires.1.0 s.requires.1.1))
+returns : tie.Need-returns
+returns c =
+    let start = c.before.before.before.before.before in
+    rw (c.closed_in.ensures, c.names_of-k.ensures, c.level-d.ensures, power_is_lem (v start) (node-16 start))
+    (sym (counter_is c.args.setup (limits start) (v start) c.requires.1.0 c.requires.1.1))
 
 pub fresh_counter_spec : {M : Type 1} → statement M
 fresh_counter_spec =
@@ -82,9 +66,16 @@ fresh_counter_spec =
     -- the names and the level
     (λ c κs. c.requires.0) (λ c κs. node-16 c.before)
     (λ c. let start = c.before.before in rw c.level-d.ensures (level_small start.args.v (node-16 start)))
-    -- `setup.closed == 0`
-    returns
+    -- `setup.closed == 0`: with none closed, all are open
+    (λ c.
+    let start = c.before.before.before.before in
+    rw (c.names_of-k.ensures, c.level-d.ensures)
+    (sym (counter_share c.args.setup (omega arith) (limits start).leaves c.args.v c.requires.1.0 c.requires.1.1)))
     -- where the names begin
-    (λ c. omega (arith, node-16 (start c))) (λ c. rw c.before.before.level-d.ensures (level_small (v c) (node-16 (start c)))) sub-before
+    (λ c. omega (arith, node-16 c.before.before.before.before))
+    (λ c.
+    let start = c.before.before.before.before in
+    rw c.level-d.ensures (level_small (v start) (node-16 start)))
+    sub-before
     -- otherwise
-    mul-closed-in closed-in-requires (λ c. rw c.closed_in.ensures (closed_le _ _ _)) returns-2)
+    mul-closed-in closed-in-requires (λ c. rw c.closed_in.ensures (closed_le _ _ _)) returns)
