@@ -1,5 +1,5 @@
 -- What the functions' proofs share.
-pub mod Filling
+pub mod FromFn
 pub mod Digests
 pub mod Lines
 pub mod Decimals

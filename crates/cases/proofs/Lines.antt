@@ -1,86 +1,54 @@
--- Texts put into a buffer one after the other are one text put there, whether or not they fit: stores past the end change nothing.
---     put_none, put_more     no text; two texts in a row
---     put_next, put_all      the texts of a list's elements, one more and all
---     put_first              what a text put at the start leaves
---     put_counts             the place after a text lies within the buffer
---     figures_more           a number more
+-- Texts put into a buffer one after the other are one text put there, whether or not they fit: by whether the first fits.
+--     put_none, put_more     no text; one text more
+--     line-more, line-end    a number more is a space and its decimal more; the line feed behind all numbers
 -- Assumes nothing.
 use mathlib.Core.List.{List, [], ◌∷◌, ◌++◌, append-nil, append_assoc}
-use Prim.Native.Nat.{ℕ, suc, ◌+◌, ◌≤◌, ◌<◌, min}
-use native.Mathlib.Decide.{dec_le}
-use native.Mathlib.Numerals.{add-one}
-use lib.ListN.{length, take, drop, get_or, set, length-append, length-set}
-use lib.Seq.{sets, set_out, length-sets, length-take-le, take-nil, take-suc, take_all}
-use Rattle.machine.proofs.Rules.{◌≡◌, ◌∙◌, sym, ap, refl, arith}
-use Rattle.io.specs.Counts.{IsPrefixLen}
-use Rattle.machine.proofs.Facts.Lists.{sets-append}
-use Rattle.cases.specs.Line.{figure, figures, size_in, put_in}
+use Prim.Native.Nat.{ℕ, ◌+◌, ◌^◌, ◌≤◌, ◌<◌}
+use lib.ListN.{length, get_or, take, drop, length-append, length-drop}
+use lib.Seq.{take-nil, take_all}
+use Rattle.machine.proofs.Rules.{◌≡◌, ◌∙◌, sym, ap, refl, arith, rules}
+use Rattle.std.proofs.lemmas.List.{same_lists, places, take_more}
+use Rattle.std.specs.Fmt.{decimal}
+use Rattle.cases.proofs.Decimals.{figure-decimal}
+use Rattle.cases.specs.Line.{figure, figures, line_of, size_in, put_in}
 
--- the buffer o becomes o': the text stands at a place as far as there is room, and r is the place after it
-pub record Put (o o' : List ℕ) (at r : ℕ) (text : List ℕ) : Type 0 where
-  pub place : r ≡ min (at + length text) (length o)
-  pub stored : o' ≡ sets o at text
+-- so many bytes of the buffer o hold the text, as far as it fits, and the others are untouched
+pub record Holds (o text bytes : List ℕ) (size : ℕ) : Type 0 where
+  pub size_is : size ≡ size_in o text
+  pub bytes_are : bytes ≡ put_in o text
 
-pub as_put : {o o' text : List ℕ} {at r : ℕ} → (r ≡ min (at + length text) (length o)) × (o' ≡ sets o at text) → Put o o' at r text
-as_put e = record { place = e.0; stored = e.1 }
+pub put_none : (o : List ℕ) → Holds o [] o 0
+put_none o = record { size_is = omega arith; bytes_are = rw (take-nil {A = ℕ} (length o)) refl }
 
-pub put_none : (o : List ℕ) (at : ℕ) → at ≤ length o → Put o o at at []
-put_none o at k = record { place = omega (arith, k); stored = refl }
+length-put_in : (o text : List ℕ) → length (put_in o text) ≡ length o
+length-put_in o text = search (rules, places)
 
-sets_out : (xs l : List ℕ) (i : ℕ) → length l ≤ i → sets l i xs ≡ l
-sets_out [] l i k = refl
-sets_out (x ∷ xs) l i k = sets_out xs (set l i x) (suc i) (omega (arith, k, length-set l i x)) ∙ set_out l i x k
+put-append : (o text more : List ℕ)
+    → let bytes = put_in o text in let size = size_in o text in
+    take size bytes ++ put_in (drop size bytes) more ≡ put_in o (text ++ more)
+put-append o text more = same_lists _ _ (search (rules, places)) (λ k d h. grind (arith, places))
 
-module _ {o o₁ : List ℕ} {at a : ℕ} {xs : List ℕ} (p : Put o o₁ at a xs) where
-  pub same_room : length o₁ ≡ length o
-  same_room = ap (λ (l : List ℕ). length l) p.stored ∙ length-sets o at xs
+module _ {o text bytes : List ℕ} {size : ℕ} (h : Holds o text bytes size) where
+  pub put_more : (more : List ℕ) {after : List ℕ} {end : ℕ} → end ≡ size + size_in (drop size bytes) more
+      → after ≡ take size bytes ++ put_in (drop size bytes) more → Holds o (text ++ more) after end
+  put_more more e b = record {
+    size_is =
+        omega (arith, e, h.size_is, length-drop size bytes, length-append text more, ap length h.bytes_are ∙ length-put_in o text);
+    bytes_are = rw (b, h.bytes_are, h.size_is) (put-append o text more);
+  }
 
-  pub put_within : a ≤ length o₁
-  put_within = omega (arith, p.place, same_room)
-
-  pub put_more : {o₂ : List ℕ} {b : ℕ} {ys : List ℕ} → Put o₁ o₂ a b ys → Put o o₂ at b (xs ++ ys)
-  put_more {o₂} {b} {ys} q =
-      record {
-        place = omega (arith, p.place, q.place, same_room, length-append xs ys);
-        stored = q.stored ∙ ap (λ (l : List ℕ). sets l a ys) p.stored ∙ go (dec_le (at + length xs) (length o));
-      }
-    where
-      go : Dec (at + length xs ≤ length o) → sets (sets o at xs) a ys ≡ sets o at (xs ++ ys)
-      go (yes k) = sets-append xs ys o at a (omega (arith, k, p.place))
-      go (no k) =
-          sets_out ys (sets o at xs) a (omega (arith, k, p.place, length-sets o at xs))
-          ∙ sym (sets_out ys (sets o at xs) (at + length xs) (omega (arith, k, length-sets o at xs)))
-          ∙ sets-append xs ys o at (at + length xs) refl
-
-sets_cons : (xs l : List ℕ) (y i : ℕ) → sets (y ∷ l) (suc i) xs ≡ y ∷ sets l i xs
-sets_cons [] l y i = refl
-sets_cons (x ∷ xs) l y i = sets_cons xs (set l i x) y (suc i)
-
-sets_cut : (xs l : List ℕ) → sets l 0 xs ≡ take (length l) xs ++ drop (length xs) l
-sets_cut [] l = rw (take-nil {A = ℕ} (length l)) refl
-sets_cut (x ∷ xs) [] = sets_out xs [] 1 (omega arith)
-sets_cut (x ∷ xs) (y ∷ l) = sets_cons xs l x 0 ∙ ap (λ (r : List ℕ). x ∷ r) (sets_cut xs l)
-
-pub put_first : {o o' text : List ℕ} {r : ℕ} → Put o o' 0 r text → (r ≡ size_in o text) × (o' ≡ put_in o text)
-put_first {o} {o'} {text} p = (omega (arith, p.place), p.stored ∙ sets_cut text o)
-
-pub put_counts : {o o' text : List ℕ} {at r : ℕ} → Put o o' at r text → IsPrefixLen r o'
-put_counts {o} {o'} {r = r} p = (put_within p, sym (length-take-le r o' (put_within p)))
-
--- a loop that puts the texts of a list's elements: those of the first i stand
-pub record Texts (text : List ℕ → List ℕ) (xs o o₁ : List ℕ) (at a i : ℕ) : Type 0 where
-  pub put : Put o o₁ at a (text (take i xs))
-
-module _ {text : List ℕ → List ℕ} {xs o o₁ : List ℕ} {at a i : ℕ} (p : Texts text xs o o₁ at a i) where
-  pub put_next : (one : List ℕ) → i < length xs → text (take i xs ++ get_or xs i 0 ∷ []) ≡ text (take i xs) ++ one
-      → {o₂ : List ℕ} {b : ℕ} → (b ≡ min (a + length one) (length o₁)) × (o₂ ≡ sets o₁ a one) → Texts text xs o o₂ at b (i + 1)
-  put_next one k e q = record { put = rw (add-one i, take-suc xs i 0 k, e) (put_more p.put (as_put q)) }
-
-  pub put_all : length xs ≤ i → (a ≡ min (at + length (text xs)) (length o)) × (o₁ ≡ sets o at (text xs))
-  put_all k = let all = rw (take_all i xs k) at p.put in (all.place, all.stored)
-
--- one number more is one figure more
-pub figures_more : (ns : List ℕ) (n : ℕ) → figures (ns ++ n ∷ []) ≡ figures ns ++ figure n
+figures-push : (ns : List ℕ) (n : ℕ) → figures (ns ++ n ∷ []) ≡ figures ns ++ figure n
 unfolding figures
-figures_more [] n = append-nil (figure n)
-figures_more (m ∷ ns) n = ap (λ (r : List ℕ). figure m ++ r) (figures_more ns n) ∙ sym (append_assoc (figure m) (figures ns) (figure n))
+figures-push [] n = append-nil (figure n)
+figures-push (m ∷ ns) n = ap (λ (r : List ℕ). figure m ++ r) (figures-push ns n) ∙ sym (append_assoc (figure m) (figures ns) (figure n))
+
+pub line-more : (word ns : List ℕ) (i n : ℕ) → i < length ns → n ≡ get_or ns i 0 → n < 2 ^ 64
+    → word ++ figures (take (i + 1) ns) ≡ ((word ++ figures (take i ns)) ++ 32 ∷ []) ++ decimal n
+line-more word ns i n k e fits =
+    let next : figures (take (i + 1) ns) ≡ figures (take i ns) ++ figure n
+    = ap figures (take_more ns i 0 k) ∙ rw (← e) (figures-push (take i ns) n) in
+    rw (next, figure-decimal n fits) (simp append_assoc)
+
+pub line-end : (word ns : List ℕ) (i : ℕ) → length ns ≤ i → (word ++ figures (take i ns)) ++ 10 ∷ [] ≡ line_of word ns
+unfolding line_of
+line-end word ns i k = rw (take_all i ns k, append_assoc)

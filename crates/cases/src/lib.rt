@@ -1,4 +1,4 @@
-// What the programs share that are compared with the simulator: states as bytes, lengths, and lines of output.
+// What the programs share that are compared with the simulator: states as bytes, what they read, and lines of output.
 #![tactic(auto)]
 
 pub mod image;

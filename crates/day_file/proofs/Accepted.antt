@@ -5,21 +5,30 @@
 --     answers, reads           past the layout, the answer and the state are those of the setup's four numbers
 --     has_layout, has_setup    a file answered 0 has the layout, and a setup that is accepted
 --     reads_fresh              and is read as that setup's fresh state
+--     has_head, hands_all, begins    it has 27 bytes, and hands back what comes behind them
+--     hands_none, begins_nowhere     a refused one hands back nothing
 -- Assumes nothing.
-use mathlib.Core.List.{List}
+use mathlib.Core.List.{List, []}
 use Prim.Native.Nat.{ℕ, ◌-◌, ◌%◌, ◌≤◌}
 use native.Mathlib.Decide.{ℕ_discrete}
+use native.Mathlib.Nat.{le_refl}
 use lib.Dec.{leb, eqb}
-use lib.ListN.{length}
-use Rattle.machine.proofs.Rules.{◌≡◌, ◌∙◌, sym, ap, refl, leb-true, eqb-true}
+use lib.ListN.{length, take, drop, length-drop}
+use lib.Seq.{take_all}
+use Rattle.std.specs.Prelude.{Result}
+use Rattle.std.specs.Result.{is_err}
+use Rattle.machine.proofs.Rules.{◌≡◌, ◌∙◌, sym, ap, refl, true, false, leb-true, eqb-true, ne_eqb}
 use Rattle.machine.specs.Check.{checked}
+use Rattle.machine.specs.Refusal.{answered}
 use Rattle.machine.specs.Setup.{setup_answer}
 use Rattle.machine.specs.State.{done, fresh, blank, setup}
 use Rattle.machine.specs.declared.Done.{Done}
+use Rattle.machine.specs.declared.refusal.Refusal.{Refusal}
 use Rattle.machine.proofs.Facts.Checks.{Passed, read_of, all_passed, accepted_with, refused_with}
+use Rattle.machine.proofs.Facts.Refusals.{accepted_of, refused_of}
 use Rattle.machine.proofs.Facts.Tests.{and_left, and_right}
 use Rattle.machine.proofs.Laws.Setup.{setup-answers, setup-accepted}
-use Rattle.day_file.specs.Layout.{is_entry, events_entry, body_size, body_setup, layout_checks, layout_answer, file_answer, read_setup}
+use Rattle.day_file.specs.Layout.{is_entry, events_entry, body_size, body_setup, layout_checks, layout_answer, file_answer, read_setup, read_events, events_start}
 
 -- the state comes with the file's own answer
 pub read_answers : (f : List ℕ) → (read_setup f).answer ≡ file_answer f
@@ -74,3 +83,27 @@ module _ (f : List ℕ) (accepted : file_answer f ≡ 0) where
 
   pub reads_fresh : read_setup f ≡ done 0 (fresh (body_setup f))
   reads_fresh = reads f has_layout ∙ setup-accepted (body_setup f) has_setup
+
+-- a call that answers as the file does, by whether it is refused
+module _ {A : Type 0} (f : List ℕ) (r : Result A Refusal) (same : answered r ≡ file_answer f) where
+  pub has_head : is_err r ≡ false → 27 ≤ length f
+  has_head e = long f (has_layout f (sym same ∙ accepted_of r e))
+
+  pub hands_all : is_err r ≡ false → read_events f ≡ take (length f - 27) (drop 27 f)
+  unfolding read_events
+  hands_all e = rw (sym same ∙ accepted_of r e) (sym (take_all (length f - 27) (drop 27 f) (simp length-drop (le_refl _))))
+
+  pub hands_none : is_err r ≡ true → read_events f ≡ []
+  unfolding read_events
+  hands_none e = rw (ne_eqb (file_answer f) 0 (λ (z : file_answer f ≡ 0). refused_of r e (same ∙ z))) refl
+
+  pub begins : is_err r ≡ false → events_start f ≡ 27
+  unfolding events_start
+  begins e = rw (sym same ∙ accepted_of r e) refl
+
+  pub begins_nowhere : is_err r ≡ true → events_start f ≡ 0
+  unfolding events_start
+  begins_nowhere e = rw (ne_eqb (file_answer f) 0 (λ (z : file_answer f ≡ 0). refused_of r e (same ∙ z))) refl
+
+-- what a search is handed of the two
+pub ruleset hands = (hands_all, hands_none)

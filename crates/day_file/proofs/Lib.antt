@@ -1,3 +1,4 @@
 -- What the functions' proofs share.
 pub mod Accepted
 pub mod Controls
+pub mod Marks

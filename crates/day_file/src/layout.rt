@@ -1,10 +1,11 @@
 // The layout of a day file: the contents first, then the setup and the events.
-ghost use Rattle.std.specs.Prelude.{◌≡◌, ◌+◌, ◌≤◌, length};
+ghost use Rattle.std.specs.Prelude.{◌≡◌, ◌+◌, ◌≤◌, length, IfOk};
 ghost use Rattle.day_file.specs.Layout.{head_size, is_marked, entry, is_entry, body_setup, layout_answer};
 ghost use Rattle.day_file.specs.Layout.{word as Layout·word};
+ghost use Rattle.machine.specs.Refusal.{answered};
+ghost use Rattle.machine.specs.Setup.{plain_of};
 
-use fresh::limits;
-use machine::{Setup, answer};
+use machine::{Numbers, Refusal};
 
 // What a day file begins with.
 pub const TURN: [u8; 4] = *b"TURN";
@@ -15,88 +16,50 @@ pub const HEAD_SIZE: usize = 27;
 // The bytes that a file has at most.
 pub const LONGEST: usize = 32768;
 
-fn wide(x: u8) -> u64
-    ensures { (result ≡ x) × (result ≤ 255) }
-{
-    x as u64
-}
-
-// Four bytes, low byte first.
-pub fn word(file: &[u8], at: usize) -> u64
+// Four bytes at a place, low byte first: document 01 gives the layout by places in the file.
+#[tactic(auto, unfolding(crate::specs::Layout::word))]
+pub fn word(file: &[u8], at: usize) -> u32
     requires { at + 4 ≤ length file.now }
     ensures { result ≡ Layout·word file.now at }
 {
-    let a = wide(file[at]);
-    let b = wide(file[at + 1]);
-    let c = wide(file[at + 2]);
-    let d = wide(file[at + 3]);
-    a + 256 * b + 65536 * c + 16777216 * d
+    u32::from_le_bytes([file[at], file[at + 1], file[at + 2], file[at + 3]])
 }
 
 // Bytes 0 to 4: the letters TURN, and 2.
+#[tactic(auto, using(crate::proofs::Marks::marked))]
 fn is_marked(file: &[u8]) -> bool
     requires { head_size ≤ length file.now }
     ensures { result ≡ is_marked file.now }
 {
-    if file[0] != TURN[0] {
-        return false;
-    }
-    if file[1] != TURN[1] {
-        return false;
-    }
-    if file[2] != TURN[2] {
-        return false;
-    }
-    if file[3] != TURN[3] {
-        return false;
-    }
-    file[4] == 2
+    file.starts_with(&TURN) && file[4] == 2
 }
 
 // Nine bytes at a place are this entry: its kind, where its body begins, and the body's size.
-fn is_entry(file: &[u8], at: usize, kind: u8, offset: u64, size: u64) -> bool
+#[tactic(auto, unfolding(crate::specs::Layout::is_entry))]
+fn is_entry(file: &[u8], at: usize, kind: u8, offset: usize, size: usize) -> bool
     requires { at + 9 ≤ length file.now }
     ensures { result ≡ is_entry file.now at (entry kind offset size) }
 {
-    if file[at] != kind {
-        return false;
-    }
-    if word(file, at + 1) != offset {
-        return false;
-    }
-    word(file, at + 5) == size
+    file[at] == kind && word(file, at + 1) as usize == offset && word(file, at + 5) as usize == size
 }
 
-// 0 where a file has the layout; 10 for its length or its first five bytes, 11 for an entry.
-pub(crate) fn layout_answer(file: &[u8]) -> u8
-    ensures { result ≡ layout_answer file.now }
+// The setup's four numbers in body 1 of a file that has the layout; 10 for its length or its first five bytes, 11 for an entry.
+#[tactic(auto, unfolding(crate::specs::Layout::layout_answer))]
+pub(crate) fn numbers_in(file: &[u8]) -> Result<Numbers, Refusal>
+    ensures answer { answered result ≡ layout_answer file.now }
+    ensures numbers { IfOk result (λ n. plain_of n ≡ body_setup file.now) }
 {
-    if file.len() < HEAD_SIZE {
-        return answer::NO_DAY_FILE;
-    }
-    if file.len() > LONGEST {
-        return answer::NO_DAY_FILE;
-    }
-    if !is_marked(file) {
-        return answer::NO_DAY_FILE;
-    }
-    if !is_entry(file, 5, 1, 23, 4) {
-        return answer::CONTENTS;
+    if !(HEAD_SIZE..=LONGEST).contains(&file.len()) || !is_marked(file) {
+        return Err(Refusal::NoDayFile);
     }
     let size = file.len() - HEAD_SIZE;
-    if !is_entry(file, 14, 2, 27, size as u64) {
-        return answer::CONTENTS;
+    if !is_entry(file, 5, 1, 23, 4) || !is_entry(file, 14, 2, 27, size) || size % 2 != 0 {
+        return Err(Refusal::Contents);
     }
-    if size % 2 != 0 {
-        return answer::CONTENTS;
-    }
-    answer::ACCEPTED
-}
-
-// Body 1: the setup's four numbers. It closes none.
-pub(crate) fn body_setup(file: &[u8]) -> Setup
-    requires { head_size ≤ length file.now }
-    ensures { result ≡ body_setup file.now }
-{
-    limits::setup_of(file[23], file[24], file[25], file[26], 0)
+    Ok(Numbers {
+        processes: file[23],
+        leaves: file[24],
+        segments: file[25],
+        bits: file[26],
+    })
 }

@@ -1,20 +1,20 @@
 -- The list, written part by part: a run of stores that goes on where the last one ended is one run of stores, of a claim that has one step
 -- more, and of the claims of one process more. Assumes nothing.
 use mathlib.Core.List.{List, [], ◌∷◌}
-use Prim.Native.Nat.{ℕ, suc, ◌+◌, ◌*◌, ◌≤◌}
+use Prim.Native.Nat.{ℕ, suc, ◌+◌, ◌*◌, ◌/◌, ◌≤◌, ◌<◌}
 use native.Mathlib.Numerals.{add-one}
 use lib.ListN.{length, replicate, length-append, length-replicate, replicate-append-replicate}
 use lib.Seq.{sets}
 use Rattle.machine.proofs.Rules.{◌≡◌, ◌∙◌, sym, ap, arith}
 use Rattle.machine.specs.Kind.{request, step}
 use Rattle.machine.specs.Lists.{Event, event_of, list_bytes}
-use Rattle.machine.specs.Setup.{setup_answer}
+use Rattle.machine.specs.Setup.{height, setup_answer}
 use Rattle.machine.specs.declared.Setup.{Setup}
 use Rattle.machine.proofs.Facts.Lists.{sets-append}
 use Rattle.machine.proofs.Laws.Parts.{bytes_length, bytes_parts}
 use Rattle.machine.proofs.Ranges.{limits_of}
 use Rattle.dearest_claim.specs.Dearest.{steps_of, claim, claims, dear}
-use Rattle.dearest_claim.proofs.Sizes.{dear_known, dear_inside, claims_length}
+use Rattle.dearest_claim.proofs.Sizes.{dear_known, dear_inside, steps_few, claims_length}
 
 -- the bytes of so many steps
 abbrev pub step_bytes : ℕ → ℕ → List ℕ
@@ -69,3 +69,25 @@ claims_fit c accepted n l =
       dear_known c accepted,
       (limits_of c accepted).n64,
     )
+
+-- the claim of process p, behind those before it: how many steps it takes, and where it ends
+pub record ClaimPut (c : Setup) (p steps end : ℕ) : Type 0 where
+  pub are : steps ≡ steps_of c p
+  pub few : steps ≤ 13
+  pub ends : end + 2 * suc steps ≡ length (list_bytes (claims c (p + 1)))
+  pub room : end + 2 * suc steps ≤ 1792
+
+pub claim_put :
+    (c c' : Setup) (h p count end : ℕ) → c' ≡ c → setup_answer c' ≡ 0 → h ≡ height c.leaves → p < count → count ≤ suc (dear c)
+    → end ≡ length (list_bytes (claims c p)) → ClaimPut c p (h + 2 + p / c'.bits) end
+claim_put c c' h p count end same accepted' e l n at =
+    let accepted : setup_answer c ≡ 0 = ap setup_answer (sym same) ∙ accepted' in
+    let are : h + 2 + p / c'.bits ≡ steps_of c p
+    = ap (λ (h : ℕ). h + 2 + p / c'.bits) e ∙ ap (λ (s : Setup). height c.leaves + 2 + p / s.bits) same in
+    let ends : end + 2 * suc (h + 2 + p / c'.bits) ≡ length (list_bytes (claims c (p + 1))) = omega (arith, at, are, claims_size c p) in
+    record {
+      are = are;
+      few = omega (arith, are, steps_few c accepted p (omega (arith, l, n, dear_inside c accepted)));
+      ends = ends;
+      room = omega (arith, ends, claims_fit c accepted (p + 1) (omega (arith, l, n)));
+    }

@@ -5,110 +5,67 @@
 #![tactic(auto)]
 
 use cases::{input, line};
-use day_file::layout;
-use machine::{DearestList, State, answer, stage};
+use machine::{DearestList, Numbers, State, stage};
 use renaming::{list, setup};
 
 // The byte that lent buffers are filled with.
 const LENT: u8 = 170;
 
-fn print_numbers(made: DearestList, holder: u8, amiss: u8) -> bool {
-    let mut text = [0u8; 64];
-    let numbers = [
-        input::number(made.answer),
-        input::number(made.figure),
-        input::number(holder),
-        input::number(amiss),
-    ];
-    let n = line::put_line(&mut text, b"dearest", &numbers);
-    io::write_all(1, &text[..n])
-}
-
 // The largest claim figure of a process that holds a name; 0 if none does.
-fn dearest_holder(state: State) -> u8 {
-    let mut most: u8 = 0;
-    let mut p = 0;
-    while p < 64 {
-        let h = state.process[p];
-        if h.stage == stage::WORKING && h.steps > most {
-            most = h.steps;
-        }
-        p += 1;
-    }
-    most
+fn dearest_holder(state: &State) -> u8 {
+    state
+        .process
+        .iter()
+        .filter(|h| h.stage == stage::WORKING)
+        .map(|h| h.steps)
+        .max()
+        .unwrap_or(0)
 }
 
-// That of the state after a list from a setup's own state.
-fn holder_after(four: [u8; 4], events: &[u8]) -> u8 {
-    let start = setup::setup(four[0], four[1], four[2], four[3]);
-    let mut journal = [0u8; 8192];
-    let ran = list::run(start.state, events, &mut journal);
-    dearest_holder(ran.state)
+// That of the state after a list from a setup's own state; 0 where the setup is refused.
+fn holder_after(numbers: Numbers, events: &[u8]) -> u8 {
+    let Ok(mut state) = setup::setup(numbers) else {
+        return 0;
+    };
+    let mut journal = [0; 8192];
+    let _ = list::run(&mut state, events, &mut journal);
+    dearest_holder(&state)
 }
 
-// Whether every byte is as it was lent.
-fn is_kept(bytes: &[u8]) -> bool {
-    let mut i = 0;
-    while i < bytes.len() {
-        if bytes[i] != LENT {
-            return false;
-        }
-        i += 1;
-    }
-    true
+// A size is amiss that is odd, above 4,096 or, of a refused call, not 0.
+fn is_size_amiss(made: DearestList) -> bool {
+    made.size % 2 != 0 || made.size > 4096 || made.answer != 0 && made.size != 0
 }
 
-// 1 for a size that is odd, above 4,096 or, of a refused call, not 0; 0 otherwise.
-fn size_amiss(made: DearestList) -> u8 {
-    if made.size % 2 != 0 {
-        return 1;
-    }
-    if made.size > 4096 {
-        return 1;
-    }
-    if made.answer != answer::ACCEPTED && made.size != 0 {
-        return 1;
-    }
-    0
+// The holder after the list that a call made, and whether something is amiss: its size, or a byte past the list that changed.
+fn outcome(numbers: Numbers, made: DearestList, out: &[u8]) -> (u8, bool) {
+    let Some((events, rest)) = out.split_at_checked(made.size) else {
+        return (0, true);
+    };
+    let is_kept = rest.iter().all(|&byte| byte == LENT);
+    let holder = holder_after(numbers, events);
+    (holder, !is_kept || is_size_amiss(made))
 }
 
-// Makes the call with these bytes for its buffer, runs the list, and prints the line. A byte past the list that changed is amiss too.
-fn make_call(four: [u8; 4], out: &mut [u8]) -> bool {
-    let made = dearest::dearest_list(four[0], four[1], four[2], four[3], &mut *out);
-    let size = made.size;
-    if size > out.len() {
-        return print_numbers(made, 0, 1);
-    }
-    let holder = holder_after(four, &out[0..size]);
-    if !is_kept(&out[size..]) {
-        return print_numbers(made, holder, 1);
-    }
-    print_numbers(made, holder, size_amiss(made))
-}
-
-// Reads a call and makes it. False where the input ends, within a record too, and where more is asked than there is.
-fn next() -> bool {
-    let mut head = [0u8; 8];
+// Reads a call, makes it and prints its line. None where the input ends, within a record too, and where more is asked than there is.
+fn next() -> Option<()> {
+    let numbers = input::read_numbers()?;
+    let room = input::read_size()?;
     let mut out = [LENT; 65536];
-    if io::read_full(0, &mut head) < 8 {
-        return false;
-    }
-    let room = layout::word(&head, 4) as usize;
-    if room > out.len() {
-        return false;
-    }
-    let four = [head[0], head[1], head[2], head[3]];
-    make_call(four, &mut out[0..room])
+    let out = out.get_mut(..room)?;
+    let made = DearestList::from(dearest::dearest_list(numbers, out));
+    let (holder, amiss) = outcome(numbers, made, out);
+    line::print_line(
+        b"dearest",
+        &[
+            made.answer.into(),
+            made.figure.into(),
+            holder.into(),
+            amiss.into(),
+        ],
+    )
 }
 
-// A proved loop has to end, and nothing says that the input does. So the loop counts its turns down, from a number that no run uses
-// up.
 fn main() {
-    let mut turns = u64::MAX;
-    while turns > 0 {
-        if !next() {
-            return;
-        }
-        turns -= 1;
-    }
+    input::repeat(|_| next());
 }

@@ -1,5 +1,6 @@
 -- What the functions' proofs share.
-pub mod Accepted
+pub mod Sizes
 pub mod Levels
 pub mod Counted
 pub mod Listed
+pub mod Filled

@@ -1,2 +1,3 @@
--- What the functions on closed names promise, by the bits of one number.
+-- What the functions on setups and closed names promise.
+pub mod Accepted
 pub mod Counts

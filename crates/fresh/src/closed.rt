@@ -1,8 +1,7 @@
 // Which names are closed (document 02, e: closed pads): the bits of one number of 64, read with no loop over names.
 ghost use Rattle.std.specs.Prelude.{◌≡◌, ◌*◌, ◌-◌, ◌/◌, ◌%◌, ◌^◌, ◌≤◌, ◌<◌, ltb};
 ghost use Rattle.std.specs.Int.Count.{ones};
-ghost use Rattle.machine.specs.Closed.{closed_word};
-ghost use Rattle.machine.specs.Setup.{setup_answer};
+ghost use Rattle.machine.specs.Setup.{names, open_names};
 ghost use Rattle.fresh.specs.Counts.{closed_in};
 
 use machine::Setup;
@@ -25,7 +24,7 @@ pub fn lowest(w: u64, n: u8) -> u64
 }
 
 // n bits of w, from bit `first` on.
-fn part(w: u64, first: u8, n: u8) -> u64
+pub(crate) fn part(w: u64, first: u8, n: u8) -> u64
     requires { (first < 64) × (n < 64) }
     ensures { result ≡ w / 2 ^ first % 2 ^ n }
 {
@@ -37,10 +36,7 @@ pub(crate) fn is_below(w: u64, k: u8) -> bool
     requires { k ≤ 64 }
     ensures { result ≡ ltb w (2 ^ k) }
 {
-    if k < 64 {
-        return w >> k == 0;
-    }
-    true
+    k >= 64 || w >> k == 0
 }
 
 // How many of n names from one on are closed, half of all at most.
@@ -51,19 +47,10 @@ pub fn closed_in(closed: u64, first: u8, n: u8) -> u8
     u32::count_ones(part(closed, first, n) as u32) as u8
 }
 
-// How many of k names are open, where none from k on is closed.
-pub(crate) fn open_of(closed: u64, k: u8) -> u8
-    requires { (k ≤ 64) × (closed < 2 ^ k) }
-    ensures { result ≡ k - ones closed }
+// How many of a setup's k names are open, where none from k on is closed.
+pub(crate) fn open_of(setup: Setup, k: u8) -> u8
+    requires { (k ≡ names setup) × (k ≤ 64) × (setup.closed < 2 ^ k) }
+    ensures { result ≡ open_names setup }
 {
-    let shut = u64::count_ones(closed) as u8;
-    k - shut
-}
-
-// The closed bits of segment word r.
-pub fn closed_word(setup: Setup, r: u8) -> u8
-    requires { (setup_answer setup ≡ 0) × (r < setup.leaves * setup.segments) }
-    ensures { result ≡ closed_word setup r }
-{
-    part(setup.closed, r * setup.bits, setup.bits) as u8
+    k - u64::count_ones(setup.closed) as u8
 }

@@ -3,28 +3,19 @@ ghost use Rattle.std.specs.Prelude.{true, ◌≡◌, ◌<◌, ◌≤◌};
 ghost use Rattle.machine.specs.Closed.{closing, closed_by, lists_below};
 
 // One name more is closed; one that is closed stays so.
+#[tactic(auto, using(crate::proofs::Listed::or_closing))]
 fn close(closed: u64, p: u8) -> u64
     requires { p < 64 }
     ensures { result ≡ closing closed p }
 {
-    if (closed >> p) % 2 == 0 {
-        return closed + (1u64 << p);
-    }
-    closed
+    closed | (1u64 << p)
 }
 
 // Is every name of the list below k?
 pub fn are_below(list: &[u8], k: u8) -> bool
     ensures { result ≡ lists_below k list.now }
 {
-    let mut i: usize = 0;
-    while i < list.len() {
-        if list[i] >= k {
-            return false;
-        }
-        i += 1;
-    }
-    true
+    list.iter().all(|&p| p < k)
 }
 
 // The number whose bits are the names of a list of names below k.
@@ -32,11 +23,9 @@ pub fn closed_of(list: &[u8], k: u8) -> u64
     requires { (k ≤ 64) × (lists_below k list.now ≡ true) }
     ensures { result ≡ closed_by 0 list.now }
 {
-    let mut closed: u64 = 0;
-    let mut i: usize = 0;
-    while i < list.len() {
-        closed = close(closed, list[i]);
-        i += 1;
+    let mut closed = 0;
+    for &p in list {
+        closed = close(closed, p);
     }
     closed
 }

@@ -1,8 +1,8 @@
 // What makes a setup's state: the limits of its numbers, its closed names, a counter's fresh value, and the states that a setup gives.
 #![tactic(auto)]
 
+pub mod accepted;
 pub mod closed;
 pub mod closing;
-pub mod counter;
-pub mod limits;
+mod limits;
 pub mod state;

@@ -1,2 +1,2 @@
 -- What the functions' proofs share.
-pub mod MovingUp
+pub mod Queue

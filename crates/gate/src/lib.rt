@@ -1,178 +1,104 @@
-// The gate word and its queue: entering, waiting and leaving. For the runner; a user calls those above it.
+// The gate word and its queue: entering, waiting and leaving. For the operations; a user calls those above them.
 #![tactic(auto)]
 
-ghost use Rattle.std.specs.Prelude.{true, ◌≡◌, ◌≤◌, eqb, length};
-ghost use Rattle.std.proofs.Math.IntN.{suc_ℤ, pred_ℤ};
-ghost use Rattle.machine.specs.Below.{indicator};
-ghost use Rattle.machine.specs.Gate.{above0, among, moved_up};
-ghost use Rattle.machine.specs.Room.{can_fall, can_rise};
-ghost use Rattle.gate.specs.Moves.{entered, entered_queue, awaited, departed, departed_queue};
+ghost use Rattle.std.specs.Prelude.{◌≡◌, ◌≤◌, get_or, set};
+ghost use Rattle.machine.specs.Gate.{enter, await, leave, in_queue, head_gone};
+ghost use Rattle.machine.specs.Refusal.{answered};
+ghost use Rattle.machine.specs.Room.{can_rise, enter_room, where_room};
+ghost use Rattle.machine.specs.Stage.{remainder};
+ghost use Rattle.machine.specs.State.{done, no_process, with_segment, with_stage};
 
-use machine::{Process, answer, stage};
+use machine::{Process, Refusal, State, stage};
 
-// A process record, the gate word and the number queued after an operation, with its answer.
-#[derive(Drop)]
-pub struct Gated {
-    pub process: Process,
-    pub gate: i8,
-    pub queued: u8,
-    pub answer: u8,
-}
-
-fn is_above(a: i8) -> bool
-    ensures { result ≡ above0 a }
+// The next stage of process p. A place past the end has no record, so that nothing is asked of p.
+#[tactic(auto, using(crate::proofs::Queue::none_past_the_end))]
+fn set_stage(process: &mut [Process], p: u8, stage: u8)
+    ensures { process.new ≡ set process.old p (with_stage stage (get_or process.old p no_process)) }
 {
-    a > 0
-}
-
-fn can_fall(a: i8) -> bool
-    ensures { result ≡ can_fall a }
-{
-    a > -64
-}
-
-fn can_rise(k: u8, a: i8) -> bool
-    requires { k ≤ 64 }
-    ensures { result ≡ can_rise k a }
-{
-    let top = k as i8;
-    a < top
-}
-
-fn lowered(a: i8) -> i8
-    requires { can_fall a ≡ true }
-    ensures { result ≡ pred_ℤ a }
-{
-    a - 1
-}
-
-fn raised(k: u8, a: i8) -> i8
-    requires { (can_rise k a ≡ true) × (k ≤ 64) }
-    ensures { result ≡ suc_ℤ a }
-{
-    a + 1
-}
-
-// Is process p the number x? 1 or 0, so that the search below has no branch on it.
-fn same(x: u8, p: u8) -> u8
-    ensures { result ≡ indicator (eqb x p) }
-{
-    if x == p { 1 } else { 0 }
-}
-
-// Is process p among the first n of the queue? It stops nowhere: where p stands in the queue no processor foresees.
-fn in_queue(queue: &[u8; 64], n: u8, p: u8) -> bool
-    requires { n ≤ 64 }
-    ensures { result ≡ among queue.now n p }
-{
-    let end = n as usize;
-    let mut found: u8 = 0;
-    let mut i: usize = 0;
-    while i < end {
-        found = found | same(queue[i], p);
-        i += 1;
+    if (p as usize) < process.len() {
+        process[p as usize].stage = stage;
     }
-    found != 0
 }
 
-// The queue's head goes, the rest move up, and the last place is 0.
-fn advance(queue: &mut [u8; 64])
-    requires { length queue.old ≡ 64 }
-    ensures { queue.new ≡ moved_up queue.old }
+// Process p idle again.
+#[tactic(auto, using(crate::proofs::Queue::none_past_the_end))]
+fn set_idle(process: &mut [Process], p: u8)
+    ensures { process.new ≡ set process.old p (with_stage remainder (with_segment 0 (get_or process.old p no_process))) }
 {
-    let mut i: usize = 0;
-    while i < 63 {
-        let x = queue[i + 1];
-        queue[i] = x;
-        i += 1;
+    if (p as usize) < process.len() {
+        let mut h = process[p as usize];
+        h.stage = stage::REMAINDER;
+        h.segment = 0;
+        process[p as usize] = h;
     }
-    queue[63] = 0;
 }
 
 // Stage 1: past the gate, or to the queue's end.
-pub fn enter(h: Process, p: u8, a: i8, n: u8, queue: &mut [u8; 64]) -> Gated
-    ensures { (result ≡ entered h a n) × (queue.new ≡ entered_queue a n p queue.old) }
+#[tactic(auto, unfolding(machine::specs::Gate::enter, machine::specs::Gate::above0, machine::specs::Room::can_fall))]
+pub fn enter(s: &mut State, p: u8) -> Result<(), Refusal>
+    ensures { done (answered result) s.new ≡ where_room (enter_room s.old) (enter s.old p) s.old }
 {
-    if !can_fall(a) {
-        return Gated {
-            process: h,
-            gate: a,
-            queued: n,
-            answer: answer::BROKEN_STATE,
-        };
+    if s.gate > 0 {
+        set_stage(&mut s.process, p, stage::GETNAME);
+        s.gate -= 1;
+        return Ok(());
     }
-    let mut x = h;
-    if is_above(a) {
-        x.stage = stage::GETNAME;
-        return Gated {
-            process: x,
-            gate: lowered(a),
-            queued: n,
-            answer: answer::ACCEPTED,
-        };
+    if s.gate <= -64 || s.queued >= 64 {
+        return Err(Refusal::BrokenState);
     }
-    if n < 64 {
-        let end = n as usize;
-        queue[end] = p;
-        x.stage = stage::WAITING;
-        return Gated {
-            process: x,
-            gate: lowered(a),
-            queued: n + 1,
-            answer: answer::ACCEPTED,
-        };
-    }
-    Gated {
-        process: h,
-        gate: a,
-        queued: n,
-        answer: answer::BROKEN_STATE,
-    }
+    set_stage(&mut s.process, p, stage::WAITING);
+    s.queue[s.queued as usize] = p;
+    s.queued += 1;
+    s.gate -= 1;
+    Ok(())
+}
+
+// Is the process in the queue? The search stops nowhere: where p stands in the queue no processor foresees.
+fn is_queued(s: &State, p: u8) -> bool
+    requires { s.now.queued ≤ 64 }
+    ensures { result ≡ in_queue s.now p }
+{
+    let n = s.queued;
+    s.queue[..n as usize]
+        .iter()
+        .fold(false, |found, &x| found | (x == p))
 }
 
 // Stage 2: on to stage 3 once out of the queue.
-pub fn wait(h: Process, queue: &[u8; 64], n: u8, p: u8) -> Process
-    requires { n ≤ 64 }
-    ensures { result ≡ awaited queue.now n p h }
+#[tactic(auto, using(crate::proofs::Queue::await_is))]
+pub fn wait(s: &mut State, p: u8)
+    requires { s.old.queued ≤ 64 }
+    ensures { s.new ≡ await s.old p }
 {
-    if in_queue(queue, n, p) {
-        return h;
+    if is_queued(s, p) {
+        return;
     }
-    let mut x = h;
-    x.stage = stage::GETNAME;
-    x
+    set_stage(&mut s.process, p, stage::GETNAME);
 }
 
-// Stage 5 at node 1: the queue's head, if there is one, leaves, and the gate word rises.
-pub fn leave(h: Process, k: u8, a: i8, n: u8, queue: &mut [u8; 64]) -> Gated
-    requires { (k ≤ 64) × (length queue.old ≡ 64) }
-    ensures { (result ≡ departed k h a n) × (queue.new ≡ departed_queue k a n queue.old) }
+// The queue's head, if there is one, leaves, and the rest move up.
+#[tactic(auto, using(crate::proofs::Queue::moved), unfolding(machine::specs::Gate::head_gone))]
+fn advance(s: &mut State)
+    ensures { s.new ≡ head_gone s.old }
 {
-    if !can_rise(k, a) {
-        return Gated {
-            process: h,
-            gate: a,
-            queued: n,
-            answer: answer::BROKEN_STATE,
-        };
+    if s.queued > 0 {
+        s.queue.copy_within(1.., 0);
+        s.queue[63] = 0;
+        s.queued -= 1;
     }
-    let mut x = h;
-    x.stage = stage::REMAINDER;
-    x.segment = 0;
-    let up = raised(k, a);
-    if n > 0 {
-        advance(queue);
-        return Gated {
-            process: x,
-            gate: up,
-            queued: n - 1,
-            answer: answer::ACCEPTED,
-        };
+}
+
+// Stage 5 at node 1: the queue's head, if there is one, leaves, and the gate word rises, to `open_names` at most.
+#[tactic(auto, unfolding(machine::specs::Gate::leave, machine::specs::Gate::head_gone, machine::specs::Room::can_rise))]
+pub fn leave(s: &mut State, p: u8, open_names: u8) -> Result<(), Refusal>
+    requires { open_names ≤ 64 }
+    ensures { done (answered result) s.new ≡ where_room (can_rise open_names s.old.gate) (leave s.old p) s.old }
+{
+    if s.gate >= open_names as i8 {
+        return Err(Refusal::BrokenState);
     }
-    Gated {
-        process: x,
-        gate: up,
-        queued: 0,
-        answer: answer::ACCEPTED,
-    }
+    s.gate += 1;
+    advance(s);
+    set_idle(&mut s.process, p);
+    Ok(())
 }

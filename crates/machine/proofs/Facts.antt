@@ -8,5 +8,6 @@ pub mod Sums
 pub mod Words
 pub mod Leaves
 pub mod Checks
+pub mod Refusals
 pub mod SetupFirst
 pub mod Filled

@@ -15,11 +15,15 @@ pub record Valid (s : State) : Type 0 where
   pub sized : Sized s
   pub ranges : Ranges s
 
-module _ {s : State} (v : Valid s) (kind p : ℕ) where
+-- an event of a state in range leaves one in range
+module _ (s : State) (e : in_range s ≡ true) (kind p : ℕ) where
   kept : Dec ((event s kind p).answer ≡ 0) → in_range (event s kind p).state ≡ true
-  kept (yes e) = accepted-in-range s kind p e
-  kept (no d) = rw (refused-unchanged s kind p d) (in_range_lem s v.ranges)
+  kept (yes a) = accepted-in-range s kind p a
+  kept (no d) = rw (refused-unchanged s kind p d) e
 
-  pub event_valid : Valid (event s kind p).state
-  event_valid =
-      record { sized = sized_kept s kind p v.sized; ranges = ranges_of _ (kept (ℕ_discrete (event s kind p).answer 0)) }
+  pub range_kept : in_range (event s kind p).state ≡ true
+  range_kept = kept (ℕ_discrete (event s kind p).answer 0)
+
+pub event_valid : {s : State} → Valid s → (kind p : ℕ) → Valid (event s kind p).state
+event_valid {s} v kind p =
+    record { sized = sized_kept s kind p v.sized; ranges = ranges_of _ (range_kept s (in_range_lem s v.ranges) kind p) }

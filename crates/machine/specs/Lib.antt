@@ -3,6 +3,7 @@
 pub mod Below
 pub mod Check
 pub mod Answer
+pub mod Refusal
 pub mod Filled
 pub mod Operations
 pub mod Closed
@@ -10,6 +11,7 @@ pub mod Setup
 pub mod Stage
 pub mod Kind
 pub mod State
+pub mod Outcome
 pub mod Range
 pub mod Gate
 pub mod Getname

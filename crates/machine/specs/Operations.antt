@@ -1,6 +1,10 @@
 -- Document 01, section Atomic operations (003, section 7.1). Bit i of a word w is w / 2^i mod 2.
 use Rattle.std.specs.Prelude.{cond, ◌&&◌, ℕ, zero, suc, ◌+◌, ◌-◌, ◌/◌, ◌%◌, ◌^◌, ltb, eqb}
-use Rattle.machine.specs.declared.Applied.{Applied}
+
+-- What an atomic operation answers, and the word that it leaves.
+pub record Applied : Type 0 where
+  pub answer : ℕ
+  pub word : ℕ
 
 abbrev pub bit : ℕ → ℕ → ℕ
 bit w i = w / 2 ^ i % 2

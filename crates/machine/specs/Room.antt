@@ -1,10 +1,16 @@
 -- Document 01, section Events: "a turn that would take one outside" a range gets 15. What room a number needs for a turn, stage by stage.
 use Rattle.std.specs.Prelude.{Bool, true, cond, ◌&&◌, ℕ, ◌/◌, ◌%◌, eqb, ltb, ℤ, pos, negsuc}
+use Rattle.machine.specs.Answer.{accepted, broken_state}
 use Rattle.machine.specs.Gate.{above0}
 use Rattle.machine.specs.Setup.{open_names}
-use Rattle.machine.specs.State.{none, figure, process_at, counter_at, fresh_counter}
+use Rattle.machine.specs.State.{done, none, figure, process_at, counter_at, fresh_counter}
+use Rattle.machine.specs.declared.Done.{Done}
 use Rattle.machine.specs.declared.Process.{Process}
 use Rattle.machine.specs.declared.State.{State}
+
+-- the turn from s that leads to t: t where there is room for it, and otherwise 15 and the state as it was
+abbrev pub where_room : Bool → State → State → Done
+where_room room t s = cond room (done accepted t) (done broken_state s)
 
 -- A falls by 1 and stays at -64 or above; it rises by 1 and stays at k, the number of open names, or below
 unfoldable pub can_fall : ℤ → Bool

@@ -4,6 +4,7 @@ use Rattle.machine.specs.Answer as answer
 use Rattle.machine.specs.Check.{Check, check, checked}
 use Rattle.machine.specs.Closed.{closed_by, open_in}
 use Rattle.machine.specs.declared.Setup.{Setup}
+use Rattle.machine.specs.declared.numbers.Numbers.{Numbers}
 
 -- Four numbers: processes (handsets) N, leaves L, segments (rows) in a leaf g, bits in a segment b; and the number of the closed names.
 -- src/lib.rt declares the record.
@@ -17,6 +18,16 @@ given n l g b ps = numbered n l g b (closed_by 0 ps)
 -- The setup of four numbers closes none.
 abbrev pub plain : ℕ → ℕ → ℕ → ℕ → Setup
 plain n l g b = numbered n l g b 0
+
+-- the same of the record of four numbers; and the setup that closes the names whose bits are 1 in a number
+abbrev pub closing_of : ℕ → Numbers → Setup
+closing_of closed n = numbered n.processes n.leaves n.segments n.bits closed
+
+abbrev pub plain_of : Numbers → Setup
+plain_of n = closing_of 0 n
+
+abbrev pub given_of : List ℕ → Numbers → Setup
+given_of ps n = closing_of (closed_by 0 ps) n
 
 -- Names (document 01: pads) k = L·g·b; those that are open.
 abbrev pub names : Setup → ℕ

@@ -2,11 +2,10 @@
 -- (document 02, b). Nothing is closed (document 02, e).
 use Rattle.std.specs.Prelude.{◌≡◌, List, ◌++◌, ℕ, take}
 use Rattle.machine.specs.Lists.{Event, events_of, after, journal}
-use Rattle.machine.specs.Operations.{set_first_zero, bounded_decrement}
+use Rattle.machine.specs.Operations.{Applied, set_first_zero, bounded_decrement}
 use Rattle.machine.specs.Runs.{request, step, release, line}
 use Rattle.machine.specs.Setup.{plain, names}
 use Rattle.machine.specs.State.{done, none, process_at, fresh, blank, setup}
-use Rattle.machine.specs.declared.Applied.{Applied}
 
 -- an operation's answer, and the word that it leaves
 abbrev pub applied : ℕ → ℕ → Applied

@@ -1,12 +1,19 @@
 // The records of the machine, document 01's section State. What an event does to them is said in specs/.
 #![tactic(auto)]
 
-pub mod answer;
 pub mod counts;
 pub mod kind;
+pub mod numbers;
+pub mod outcome;
+pub mod refusal;
 pub mod stage;
 
-// The name of a process that has none.
+pub use kind::Kind;
+pub use numbers::Numbers;
+pub use outcome::{Dearest, GateReport};
+pub use refusal::Refusal;
+
+// The name of a process that has none: a byte of C's record, and so no Option.
 pub const NO_NAME: u8 = 255;
 
 // What a setup is given: processes (document 01: handsets) N, leaves L, segments (rows) in a leaf g, bits in a segment b, and which
@@ -48,21 +55,13 @@ pub struct State {
     pub process: [Process; 64],
 }
 
-// The state after a call, and what it answers: 0 or the number of a refusal. The state comes first: behind the answer it would lie past
-// padding, and be put together aside and copied once more.
+// For C: the state after a call, and what it answers, 0 or the number of a refusal. The state comes first: behind the answer it would lie
+// past padding, and be put together aside and copied once more.
 #[repr(C)]
 #[derive(Clone, Copy)]
 pub struct Done {
     pub state: State,
     pub answer: u8,
-}
-
-// What an atomic operation answers, and the word that it leaves.
-#[repr(C)]
-#[derive(Clone, Copy)]
-pub struct Applied {
-    pub answer: u8,
-    pub word: u8,
 }
 
 // What one getname step does: it goes left or right to a node, wins a name, moves to a segment, or finds none left
@@ -76,7 +75,7 @@ pub enum ClaimStep {
     Exhausted,
 }
 
-// The gate report: names still free at the gate (document 01: pads still open), and processes queued there.
+// The gate report for C: the answer, names still free at the gate (document 01: pads still open), and processes queued there.
 #[repr(C)]
 #[derive(Clone, Copy)]
 pub struct Report {
@@ -94,7 +93,7 @@ pub struct Status {
     pub figure: u8,
 }
 
-// What a call that fills a lent buffer answers: 0 or the number of a refusal, and how many bytes it wrote.
+// What a call that fills a lent buffer answers, for C: 0 or the number of a refusal, and how many bytes it wrote.
 #[repr(C)]
 #[derive(Clone, Copy)]
 pub struct Written {
@@ -102,7 +101,7 @@ pub struct Written {
     pub size: usize,
 }
 
-// What the call of the dearest list answers: 0 or the number of a refusal, the dearest claim's figure, and how many bytes it wrote.
+// What the call of the dearest list answers, for C: 0 or the number of a refusal, the dearest claim's figure, and how many bytes it wrote.
 #[repr(C)]
 #[derive(Clone, Copy)]
 pub struct DearestList {

@@ -1,4 +1,5 @@
-// The stages of a process; behind each, document 01's word.
+// The stages of a process; behind each, document 01's word. Numbers and no enum: document 01 wants the match over the number, and C may put
+// any byte into a record.
 pub const REMAINDER: u8 = 0; // idle
 
 pub const ENTRY: u8 = 1; // asking

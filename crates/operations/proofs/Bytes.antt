@@ -1,32 +1,57 @@
--- The rules of words of eight bits: the trailing zeros computed once over all of them, with the law that the test gives, and a closed bit
--- passed over as a set one is.
---     zeros_is      the trailing zeros of the complement, within b bits, are the first index that is clear and not closed
---     set_below     setting that bit keeps the word a byte
+-- The rules of words of eight bits: the trailing zeros, and a bit set or cleared, computed once over all of them, with the law that each
+-- test gives, and a closed bit passed over as a set one is.
+--     first_zero_is    the first index that is clear and not closed is the trailing zeros of the complement, within b bits
+--     or_first_zero    setting that bit adds its power of 2
+--     and_not          clearing a bit is `clr_bit`
 -- Assumes nothing.
-use Prim.Native.Nat.{ℕ, zero, suc, ◌+◌, ◌-◌, ◌/◌, ◌%◌, ◌^◌, ◌≤◌, ◌<◌, max}
+use Prim.Native.Nat.{ℕ, zero, suc, ◌+◌, ◌*◌, ◌-◌, ◌/◌, ◌%◌, ◌^◌, ◌≤◌, ◌<◌, max}
 use native.Mathlib.Nat.{zero-max, max-zero, suc-max-suc, max-le}
-use lib.Bits.{bit_or, or_step, or_lt}
+use lib.Bits.{bit_or, bit_and, or_step, or_lt}
 use lib.Count.{count_trailing_zeros}
 use lib.Dec.{ltb, eqb}
-use Rattle.machine.proofs.Rules.{◌≡◌, ◌∙◌, sym, refl, true, cond, Bool, ◌&&◌, and-true, arith, ne_eqb, eqb-true}
+use Rattle.machine.proofs.Rules.{◌≡◌, ◌∙◌, refl, true, cond, Bool, ◌&&◌, and-true, arith, ne_eqb, eq-eqb, eqb-true}
 use Rattle.machine.specs.Below.{all_below}
-use Rattle.machine.specs.Operations.{first_zero}
+use Rattle.machine.specs.Operations.{bit, first_zero, clr_bit}
 use Rattle.machine.proofs.Facts.Below.{all_at}
-use Rattle.machine.proofs.Facts.Words.{first_zero_clear, set-bit_lt}
+use Rattle.machine.proofs.Facts.Words.{first_zero_clear}
 
--- what first_zero returns
+-- what the code computes
 abbrev pub zeros : ℕ → ℕ → ℕ
 zeros b w = cond (ltb (count_trailing_zeros 8 (255 - w)) b) (count_trailing_zeros 8 (255 - w)) b
 
-abbrev right : ℕ → ℕ → Bool
-right b w = eqb (zeros b w) (first_zero b 0 w)
+abbrev pub shifted : ℕ → ℕ
+shifted i = (1 * 2 ^ i) % 256
 
-abbrev rights : ℕ → Bool
-rights b = all_below 256 (right b)
+-- each of it, for every byte
+abbrev counted : ℕ → ℕ → Bool
+counted b w = eqb (first_zero b 0 w) (zeros b w)
 
-all_right : all_below 9 rights ≡ true
+abbrev all_counted : ℕ → Bool
+all_counted b = all_below 256 (counted b)
+
+each_counted : all_below 9 all_counted ≡ true
 unfolding all_below first_zero count_trailing_zeros
-all_right = refl
+each_counted = refl
+
+abbrev sum_or : ℕ → ℕ → Bool
+sum_or i w = cond (eqb (bit w i) 0) (eqb (bit_or w (shifted i)) (w + 2 ^ i)) true
+
+abbrev all_sums : ℕ → Bool
+all_sums i = all_below 256 (sum_or i)
+
+each_sum : all_below 8 all_sums ≡ true
+unfolding all_below
+each_sum = refl
+
+abbrev cleared : ℕ → ℕ → Bool
+cleared i w = eqb (bit_and w (255 - shifted i)) (clr_bit w i)
+
+abbrev all_cleared : ℕ → Bool
+all_cleared i = all_below 256 (cleared i)
+
+each_cleared : all_below 8 all_cleared ≡ true
+unfolding all_below clr_bit
+each_cleared = refl
 
 -- the lowest bits of both words together, and the bits above them
 module _ (w x : ℕ) where
@@ -50,11 +75,17 @@ unfolding first_zero
 first_zero-or zero x w = refl
 first_zero-or (suc b) x w = rw (or_low w x, or_rest w x, neither (w % 2) (x % 2), and-true, first_zero-or b (x / 2) (w / 2))
 
-pub zeros_is : (b x w : ℕ) → b < 9 → x < 256 → w < 256 → zeros b (bit_or w x) ≡ first_zero b x w
-zeros_is b x w k m l =
+pub first_zero_is : (b x w : ℕ) → b < 9 → x < 256 → w < 256 → first_zero b x w ≡ zeros b (bit_or w x)
+first_zero_is b x w k m l =
     let y : ℕ = bit_or w x in
-    eqb-true (zeros b y) (first_zero b 0 y) (all_at 256 (right b) (all_at 9 rights all_right b k) y (or_lt 8 w x l m))
-    ∙ sym (first_zero-or b x w)
+    first_zero-or b x w ∙ eqb-true _ _ (all_at 256 (counted b) (all_at 9 all_counted each_counted b k) y (or_lt 8 w x l m))
 
-pub set_below : (b x w : ℕ) → b < 9 → w < 256 → first_zero b x w < b → w + 2 ^ first_zero b x w < 256
-set_below b x w k l h = set-bit_lt 8 w (first_zero b x w) l (omega arith) (first_zero_clear b x w h)
+or_clear : (w i : ℕ) → w < 256 → i < 8 → bit w i ≡ 0 → bit_or w (shifted i) ≡ w + 2 ^ i
+or_clear w i l k e = eqb-true _ _ (rw (eq-eqb (bit w i) 0 e) at (all_at 256 (sum_or i) (all_at 8 all_sums each_sum i k) w l))
+
+pub or_first_zero : (b x w : ℕ) → b < 9 → w < 256 → first_zero b x w < b
+    → bit_or w (shifted (first_zero b x w)) ≡ w + 2 ^ first_zero b x w
+or_first_zero b x w k l h = or_clear w (first_zero b x w) l (omega arith) (first_zero_clear b x w h)
+
+pub and_not : (w i : ℕ) → w < 256 → i < 8 → bit_and w (255 - shifted i) ≡ clr_bit w i
+and_not w i l k = eqb-true _ _ (all_at 256 (cleared i) (all_at 8 all_cleared each_cleared i k) w l)

@@ -1,6 +1,3 @@
 -- What the functions' proofs share.
 pub mod Bytes
-pub mod Rooms
-pub mod Stages
-pub mod Segments
-pub mod ByPlace
+pub mod Turns

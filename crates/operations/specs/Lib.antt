@@ -1,3 +1,2 @@
--- What one operation makes of a process record and a shared word, and which place an event touches.
-pub mod Moves
-pub mod Places
+-- What the operations are told of a process.
+pub mod Setting

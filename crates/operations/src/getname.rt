@@ -1,122 +1,108 @@
 // Stage 3: one getname step at a node or at a leaf.
-ghost use Rattle.std.specs.Prelude.{◌≡◌, ◌+◌, ◌*◌, ◌≤◌, ◌<◌};
-ghost use Rattle.machine.specs.Getname.{claimed, side, outcome};
-ghost use Rattle.machine.specs.State.{figure};
-ghost use Rattle.operations.specs.Places.{Setting};
-ghost use Rattle.operations.specs.Moves.{descended, probed};
+ghost use Rattle.std.specs.Prelude.{◌≡◌, ◌+◌, ◌*◌, ◌≤◌, ◌<◌, IfSome};
+ghost use Rattle.std.specs.Option.{unwrap_or};
+ghost use Rattle.machine.specs.Getname.{claimed, side, outcome, descend, probe, getname_step};
+ghost use Rattle.machine.specs.Refusal.{answered};
+ghost use Rattle.machine.specs.Room.{getname_room, where_room};
+ghost use Rattle.machine.specs.State.{done, figure, process_at};
+ghost use Rattle.operations.specs.Setting.{Setting};
 
 use crate::words;
-use fresh::closed;
-use machine::{ClaimStep, Process, Setup, answer, counts, stage};
-
-// A process record and a shared word after an operation, with its answer.
-#[derive(Drop)]
-pub struct Moved {
-    pub process: Process,
-    pub word: u8,
-    pub answer: u8,
-}
+use fresh::accepted::Accepted;
+use machine::{ClaimStep, Process, Refusal, Setup, State, stage};
 
 // Left if the counter's old value was above 0, otherwise right.
-fn side_of(v: u8, old: u8) -> ClaimStep
-    requires { v < 32 }
-    ensures { result ≡ side v old }
+#[tactic(auto, unfolding(machine::specs::Getname::side))]
+fn side_of(node: u8, old: u8) -> ClaimStep
+    requires { node < 32 }
+    ensures { result ≡ side node old }
 {
     if old > 0 {
-        ClaimStep::Left(2 * v)
+        ClaimStep::Left(2 * node)
     } else {
-        ClaimStep::Right(2 * v + 1)
+        ClaimStep::Right(2 * node + 1)
     }
 }
 
-// Won, the next segment, or none left, by the answer m of set_first_zero on segment word r.
-fn outcome_of(setup: Setup, r: u8, i: u8, m: u8) -> ClaimStep
-    requires { (i < setup.segments) × (r * setup.bits + setup.bits ≤ 64) }
-    ensures { result ≡ outcome setup r i m }
+// Won, the next segment, or none left, by the answer of set_first_zero on the segment word of this number.
+#[tactic(auto, unfolding(machine::specs::Getname::outcome))]
+fn outcome_of(setup: Setup, word: u8, segment: u8, bit: Option<u8>) -> ClaimStep
+    requires segment { segment < setup.segments }
+    requires names { word * setup.bits + setup.bits ≤ 64 }
+    requires below { IfSome bit (λ i. i < setup.bits) }
+    ensures { result ≡ outcome setup word segment (unwrap_or bit setup.bits) }
 {
-    if m < setup.bits {
-        return ClaimStep::Won(r * setup.bits + m);
-    }
-    if i + 1 < setup.segments {
-        ClaimStep::NextSegment(i + 1)
-    } else {
-        ClaimStep::Exhausted
+    match bit {
+        Some(i) => ClaimStep::Won(word * setup.bits + i),
+        None if segment + 1 < setup.segments => ClaimStep::NextSegment(segment + 1),
+        None => ClaimStep::Exhausted,
     }
 }
 
 // What a getname step makes of the process.
-fn claim(c: ClaimStep, h: Process) -> Process
+fn claim(mut h: Process, step: ClaimStep) -> Process
     requires { figure h < 255 }
-    ensures { result ≡ claimed c h }
+    ensures { result ≡ claimed step h }
 {
-    let mut x = h;
-    x.steps = h.steps + 1;
-    match c {
-        ClaimStep::Left(v) => {
-            x.node = v;
-            x
+    h.steps += 1;
+    match step {
+        ClaimStep::Left(node) | ClaimStep::Right(node) => h.node = node,
+        ClaimStep::Won(name) => {
+            h.stage = stage::WORKING;
+            h.name = name;
         }
-        ClaimStep::Right(v) => {
-            x.node = v;
-            x
-        }
-        ClaimStep::Won(m) => {
-            x.stage = stage::WORKING;
-            x.name = m;
-            x
-        }
-        ClaimStep::NextSegment(i) => {
-            x.segment = i;
-            x
-        }
-        ClaimStep::Exhausted => {
-            x.stage = stage::EXHAUSTED;
-            x
-        }
+        ClaimStep::NextSegment(segment) => h.segment = segment,
+        ClaimStep::Exhausted => h.stage = stage::EXHAUSTED,
     }
+    h
 }
 
-// At a node below L: bounded_decrement of its counter c.
-pub fn descend(h: Process, c: u8) -> Moved
-    requires { h.node < 32 }
-    ensures { result ≡ descended h c }
+// At a node below L: bounded_decrement of its counter.
+#[tactic(auto, unfolding(machine::specs::Getname::descend, machine::specs::Operations::bounded_decrement))]
+fn descend(s: &mut State, p: u8) -> Result<(), Refusal>
+    requires known { p < 64 }
+    requires node { (process_at s.old p).node < 16 }
+    ensures { done (answered result) s.new ≡ where_room (getname_room s.old p) (descend s.old p) s.old }
 {
-    if counts::has_room(h) {
-        let op = words::bounded_decrement(c);
-        let step = side_of(h.node, op.answer);
-        let x = claim(step, h);
-        return Moved {
-            process: x,
-            word: op.word,
-            answer: answer::ACCEPTED,
-        };
+    let h = s.process[p as usize];
+    if !h.has_room() {
+        return Err(Refusal::BrokenState);
     }
-    Moved {
-        process: h,
-        word: c,
-        answer: answer::BROKEN_STATE,
-    }
+    let old = words::bounded_decrement(&mut s.counters[h.node as usize]);
+    s.process[p as usize] = claim(h, side_of(h.node, old));
+    Ok(())
 }
 
-// At a leaf: set_first_zero on its segment word w, the word number r.
-pub fn probe(h: Process, w: u8, r: u8, setup: Setup) -> Moved
-    requires { Setting setup h × (r < setup.leaves * setup.segments) }
-    ensures { result ≡ probed setup r h w }
+// At a leaf: set_first_zero on its segment word.
+#[tactic(auto, unfolding(machine::specs::Getname::probe, machine::specs::Operations::set_first_zero))]
+fn probe(s: &mut State, p: u8) -> Result<(), Refusal>
+    requires known { p < 64 }
+    requires told { Setting s.old.setup (process_at s.old p) }
+    requires leaf { s.old.setup.leaves ≤ (process_at s.old p).node }
+    ensures { done (answered result) s.new ≡ where_room (getname_room s.old p) (probe s.old p) s.old }
 {
-    if counts::has_room(h) {
-        let shut = closed::closed_word(setup, r);
-        let op = words::set_first_zero(setup.bits, shut, w);
-        let step = outcome_of(setup, r, h.segment, op.answer);
-        let x = claim(step, h);
-        return Moved {
-            process: x,
-            word: op.word,
-            answer: answer::ACCEPTED,
-        };
+    let h = s.process[p as usize];
+    if !h.has_room() {
+        return Err(Refusal::BrokenState);
     }
-    Moved {
-        process: h,
-        word: w,
-        answer: answer::BROKEN_STATE,
+    let setup = s.setup;
+    let word = (h.node - setup.leaves) * setup.segments + h.segment;
+    let closed = Accepted::of(setup).closed_word(word);
+    let bit = words::set_first_zero(&mut s.words[word as usize], setup.bits, closed);
+    s.process[p as usize] = claim(h, outcome_of(setup, word, h.segment, bit));
+    Ok(())
+}
+
+// One step: at a node or at a leaf.
+#[tactic(auto, unfolding(machine::specs::Getname::getname_step))]
+pub fn getname_step(s: &mut State, p: u8) -> Result<(), Refusal>
+    requires known { p < 64 }
+    requires told { Setting s.old.setup (process_at s.old p) }
+    ensures { done (answered result) s.new ≡ where_room (getname_room s.old p) (getname_step s.old p) s.old }
+{
+    if s.process[p as usize].node < s.setup.leaves {
+        descend(s, p)
+    } else {
+        probe(s, p)
     }
 }

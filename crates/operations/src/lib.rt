@@ -1,8 +1,85 @@
-// The operations of one event on a counter or a segment word, and which shared place an event touches. For the crates above; a user
-// calls those.
+// One event, done in place: its refusals in order, then what its kind and the process's stage say. For the crates above; a user calls
+// those. That p is below 64 stays in the clauses: it is the frame's byte, which `event` tests, and a type of its own for it would be taken
+// apart at each index.
 #![tactic(auto)]
 
-pub mod getname;
-pub mod place;
-pub mod putname;
+mod getname;
+mod putname;
 pub mod words;
+
+ghost use Rattle.std.specs.Prelude.{true, ◌≡◌, ◌<◌};
+ghost use Rattle.machine.specs.Event.{request, step, release, event};
+ghost use Rattle.machine.specs.Range.{in_range};
+ghost use Rattle.machine.specs.Refusal.{answered};
+ghost use Rattle.machine.specs.State.{done};
+
+use fresh::state;
+use machine::{Kind, Process, Refusal, State, stage};
+
+// Request (ask), only in the remainder section.
+#[tactic(auto, unfolding(machine::specs::Event::request))]
+fn request(s: &mut State, p: u8) -> Result<(), Refusal>
+    requires { p < 64 }
+    ensures { done (answered result) s.new ≡ request s.old p }
+{
+    if s.process[p as usize].stage != stage::REMAINDER {
+        return Err(Refusal::Busy);
+    }
+    s.process[p as usize] = Process {
+        stage: stage::ENTRY,
+        ..state::fresh_process()
+    };
+    Ok(())
+}
+
+// Step (turn), never in the remainder section or at work; the stage decides: document 01 wants the match over its number.
+#[tactic(auto, using(crate::proofs::Turns::turns))]
+fn step(s: &mut State, p: u8) -> Result<(), Refusal>
+    requires range { in_range s.old ≡ true }
+    requires known { p < s.old.setup.processes }
+    ensures { done (answered result) s.new ≡ step s.old p }
+{
+    match s.process[p as usize].stage {
+        stage::REMAINDER => Err(Refusal::NotMoving),
+        stage::ENTRY => gate::enter(s, p),
+        stage::WAITING => {
+            gate::wait(s, p);
+            Ok(())
+        }
+        stage::GETNAME => getname::getname_step(s, p),
+        stage::WORKING => Err(Refusal::NotMoving),
+        stage::PUTNAME => putname::putname_step(s, p),
+        stage::EXHAUSTED => Ok(()),
+        _ => Err(Refusal::BrokenState),
+    }
+}
+
+// Release (finish), only at work.
+#[tactic(auto, unfolding(machine::specs::Event::release))]
+fn release(s: &mut State, p: u8) -> Result<(), Refusal>
+    requires { p < 64 }
+    ensures { done (answered result) s.new ≡ release s.old p }
+{
+    if s.process[p as usize].stage != stage::WORKING {
+        return Err(Refusal::NoNameHeld);
+    }
+    s.process[p as usize].stage = stage::PUTNAME;
+    Ok(())
+}
+
+// An event: an unknown kind, then a stranger, then the refusals of its kind.
+#[tactic(auto, using(crate::proofs::Turns::turns), unfolding(machine::specs::Event::event))]
+pub fn event(s: &mut State, kind: u8, p: u8) -> Result<(), Refusal>
+    requires { in_range s.old ≡ true }
+    ensures { done (answered result) s.new ≡ event s.old kind p }
+{
+    let kind = Kind::try_from(kind)?;
+    if p >= s.setup.processes {
+        return Err(Refusal::Stranger);
+    }
+    match kind {
+        Kind::Request => request(s, p),
+        Kind::Step => step(s, p),
+        Kind::Release => release(s, p),
+    }
+}

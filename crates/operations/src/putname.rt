@@ -1,65 +1,81 @@
-// Stage 5: one putname step that gives back a bit or a counter, and counts as a return operation.
-ghost use Rattle.std.specs.Prelude.{◌≡◌, ◌<◌};
-ghost use Rattle.machine.specs.Putname;
-ghost use Rattle.machine.specs.Setup.{setup_answer};
-ghost use Rattle.machine.specs.State.{figure};
-ghost use Rattle.operations.specs.Moves.{given_back, climbed};
+// Stage 5: one putname step gives back a bit or a counter, which counts as a return operation, or leaves by the gate.
+ghost use Rattle.std.specs.Prelude.{◌≡◌, ◌≢◌, ◌<◌};
+ghost use Rattle.machine.specs.Putname.{returned, give_back, climb, putname_step};
+ghost use Rattle.machine.specs.Refusal.{answered};
+ghost use Rattle.machine.specs.Room.{has_room, climb_room, putname_room, where_room};
+ghost use Rattle.machine.specs.State.{done, none, figure, process_at};
+ghost use Rattle.operations.specs.Setting.{Setting};
 
-use crate::getname::Moved;
 use crate::words;
-use fresh::counter;
-use machine::{NO_NAME, Process, Setup, answer, counts};
+use fresh::accepted::Accepted;
+use machine::{NO_NAME, Process, Refusal, State};
 
 // One return operation more.
 fn returned(h: Process) -> Process
     requires { figure h < 255 }
-    ensures { result ≡ Putname.returned h }
+    ensures { result ≡ returned h }
 {
-    let mut x = h;
-    x.returns = h.returns + 1;
-    x
-}
-
-// With a name: bit i of its segment word w is cleared.
-pub fn give_back(h: Process, w: u8, i: u8) -> Moved
-    requires { i < 8 }
-    ensures { result ≡ given_back h w i }
-{
-    if counts::has_room(h) {
-        let mut x = returned(h);
-        x.name = NO_NAME;
-        return Moved {
-            process: x,
-            word: words::clr_bit(w, i),
-            answer: answer::ACCEPTED,
-        };
-    }
-    Moved {
-        process: h,
-        word: w,
-        answer: answer::BROKEN_STATE,
+    Process {
+        returns: h.returns + 1,
+        ..h
     }
 }
 
-// Up from a left child to its parent u, whose counter c rises.
-pub fn climb(h: Process, u: u8, c: u8, setup: Setup) -> Moved
-    requires { (setup_answer setup ≡ 0) × ((0 < u) × (u < setup.leaves)) }
-    ensures { result ≡ climbed setup u h c }
+// With a name: its bit is cleared.
+#[tactic(auto, unfolding(machine::specs::Putname::give_back))]
+fn give_back(s: &mut State, p: u8) -> Result<(), Refusal>
+    requires known { p < 64 }
+    requires told { Setting s.old.setup (process_at s.old p) }
+    requires named { (process_at s.old p).name ≢ none }
+    ensures { done (answered result) s.new ≡ where_room (has_room (process_at s.old p)) (give_back s.old p) s.old }
 {
-    if c < counter::fresh_counter(setup, u) {
-        if counts::has_room(h) {
-            let mut x = returned(h);
-            x.node = u;
-            return Moved {
-                process: x,
-                word: c + 1,
-                answer: answer::ACCEPTED,
-            };
+    let mut h = s.process[p as usize];
+    if !h.has_room() {
+        return Err(Refusal::BrokenState);
+    }
+    let word = h.name / s.setup.bits;
+    words::clr_bit(&mut s.words[word as usize], h.name % s.setup.bits);
+    h.name = NO_NAME;
+    s.process[p as usize] = returned(h);
+    Ok(())
+}
+
+// With no name, above node 1: up to the parent, whose counter rises from a left child.
+#[tactic(auto, unfolding(machine::specs::Putname::climb))]
+fn climb(s: &mut State, p: u8) -> Result<(), Refusal>
+    requires known { p < 64 }
+    requires told { Setting s.old.setup (process_at s.old p) }
+    requires above { 1 < (process_at s.old p).node }
+    ensures { done (answered result) s.new ≡ where_room (climb_room s.old p) (climb s.old p) s.old }
+{
+    let mut h = s.process[p as usize];
+    let parent = h.node / 2;
+    if h.node % 2 == 0 {
+        let counter = s.counters[parent as usize];
+        if counter >= Accepted::of(s.setup).fresh_counter(parent) || !h.has_room() {
+            return Err(Refusal::BrokenState);
         }
+        s.counters[parent as usize] = counter + 1;
+        h = returned(h);
     }
-    Moved {
-        process: h,
-        word: c,
-        answer: answer::BROKEN_STATE,
+    h.node = parent;
+    s.process[p as usize] = h;
+    Ok(())
+}
+
+// One step: with a name, above node 1, or at node 1, where the process leaves.
+#[tactic(auto, unfolding(machine::specs::Putname::putname_step))]
+pub fn putname_step(s: &mut State, p: u8) -> Result<(), Refusal>
+    requires known { p < 64 }
+    requires told { Setting s.old.setup (process_at s.old p) }
+    ensures { done (answered result) s.new ≡ where_room (putname_room s.old p) (putname_step s.old p) s.old }
+{
+    let h = s.process[p as usize];
+    if h.name != NO_NAME {
+        give_back(s, p)
+    } else if h.node > 1 {
+        climb(s, p)
+    } else {
+        gate::leave(s, p, Accepted::of(s.setup).open_names())
     }
 }

@@ -1,65 +1,47 @@
 // The three atomic operations of 003, section 7.1, on one word.
-ghost use Rattle.std.specs.Prelude.{◌≡◌, ◌^◌, ◌<◌, ◌≤◌};
+ghost use Rattle.std.specs.Prelude.{◌≡◌, ◌<◌, ◌≤◌, IfSome};
+ghost use Rattle.std.specs.Option.{unwrap_or};
 ghost use Rattle.machine.specs.Operations.{first_zero, set_first_zero, clr_bit, bounded_decrement};
 
-use machine::Applied;
-
-// 2 to the power i.
-fn power(i: u8) -> u8
-    requires { i < 8 }
-    ensures { result ≡ 2 ^ i }
+// The index of the lowest of so many bits that is neither set nor closed: the trailing zeros of the complement.
+#[tactic(auto, using(crate::proofs::Bytes::first_zero_is))]
+fn first_zero(word: u8, bits: u8, closed: u8) -> Option<u8>
+    requires { bits ≤ 8 }
+    ensures answer { unwrap_or result bits ≡ first_zero bits closed word }
+    ensures below { IfSome result (λ i. i < bits) }
 {
-    1u8 << i
+    let i = u8::trailing_zeros(!(word | closed)) as u8;
+    (i < bits).then_some(i)
 }
 
-// The index of the lowest bit among b that is clear in w and not closed in x, or b where there is none: the trailing zeros of the
-// complement.
-fn first_zero(b: u8, x: u8, w: u8) -> u8
-    requires { b ≤ 8 }
-    ensures { result ≡ first_zero b x w }
+// The lowest clear bit that is not closed is set, and its index is the answer; if there is none, the word stays.
+#[tactic(auto, using(crate::proofs::Bytes::or_first_zero), unfolding(machine::specs::Operations::set_first_zero))]
+pub fn set_first_zero(word: &mut u8, bits: u8, closed: u8) -> Option<u8>
+    requires { bits ≤ 8 }
+    ensures answer { unwrap_or result bits ≡ (set_first_zero bits closed word.old).answer }
+    ensures below { IfSome result (λ i. i < bits) }
+    ensures word { word.new ≡ (set_first_zero bits closed word.old).word }
 {
-    let m = u8::trailing_zeros(!(w | x)) as u8;
-    if m < b { m } else { b }
-}
-
-// The lowest clear bit that is not closed in x is set and its index is the answer; if there is none, the word stays and the answer is b.
-pub fn set_first_zero(b: u8, x: u8, w: u8) -> Applied
-    requires { b ≤ 8 }
-    ensures { result ≡ set_first_zero b x w }
-{
-    let m = first_zero(b, x, w);
-    if m < b {
-        let p = power(m);
-        return Applied {
-            answer: m,
-            word: w + p,
-        };
-    }
-    Applied { answer: m, word: w }
+    let i = first_zero(*word, bits, closed)?;
+    *word |= 1 << i;
+    Some(i)
 }
 
 // Bit i becomes 0.
-pub fn clr_bit(w: u8, i: u8) -> u8
+#[tactic(auto, using(crate::proofs::Bytes::and_not))]
+pub fn clr_bit(word: &mut u8, i: u8)
     requires { i < 8 }
-    ensures { result ≡ clr_bit w i }
+    ensures { word.new ≡ clr_bit word.old i }
 {
-    if (w >> i) % 2 == 1 {
-        let p = power(i);
-        w - p
-    } else {
-        w
-    }
+    *word &= !(1 << i);
 }
 
 // Answers the old value and subtracts 1 unless it was 0.
-pub fn bounded_decrement(c: u8) -> Applied
-    ensures { result ≡ bounded_decrement c }
+#[tactic(auto, unfolding(machine::specs::Operations::bounded_decrement))]
+pub fn bounded_decrement(counter: &mut u8) -> u8
+    ensures { record { answer = result; word = counter.new } ≡ bounded_decrement counter.old }
 {
-    if c == 0 {
-        return Applied { answer: 0, word: 0 };
-    }
-    Applied {
-        answer: c,
-        word: c - 1,
-    }
+    let old = *counter;
+    *counter = old.saturating_sub(1);
+    old
 }

@@ -19,30 +19,27 @@ fn complain(line: &[u8]) {
 // The text of the file on standard input.
 fn print_text() {
     // one byte more than a file may have, so that a longer one shows
-    let mut input = [0u8; 32769];
+    let mut input = [0; 32769];
     let n = io::read_full(STDIN, &mut input);
     // 16,370 events take at most 16 bytes each
-    let mut out = [0u8; 262144];
-    let text = file::file_text(&input[..n], &mut out);
-    if !io::write_all(STDOUT, &out[..text.size]) {
+    let mut out = [0; 262144];
+    let Ok(size) = file::file_text(&input[..n], &mut out) else {
+        return;
+    };
+    if !io::write_all(STDOUT, &out[..size]) {
         complain(b"pads: cannot write\n");
     }
 }
 
 // Whether there is an argument behind the program's name, of whatever bytes and length.
 fn has_argument(env: &impl Env) -> bool {
-    let mut start = [0u8; 1];
-    match env.arg(1, &mut start) {
-        Ok(_) => true,
-        Err(FillError::TooLong) => true,
-        Err(FillError::NotPresent) => false,
-    }
+    !matches!(env.arg(1, &mut [0]), Err(FillError::NotPresent))
 }
 
 fn main(rt: HostRuntime) {
     if has_argument(&rt) {
         complain(b"usage: pads < FILE\n");
-        return;
+    } else {
+        print_text();
     }
-    print_text();
 }

@@ -1,14 +1,18 @@
 -- The greatest of the first numbers of a list, and the bits of those past them, are found place by place and decide the
 -- tests of the queue and of the words: by comparing at each place.
---     of_none, larger, no_larger        the greatest, one place more
+--     one_number, of_front     the greatest, one place more, and of a front
 --     or-none, bits_more                the bits, one place more
 --     entry_out, past_decides           the queue
 --     words_decide                      the words
 -- Assumes nothing.
-use Rattle.std.proofs.Common.{ℕ, ◌+◌, ◌-◌, ◌^◌, ◌<◌, ◌≤◌, eqb, ltb, leb, List, get_or, le_refl, eq-or-lt_of_le, add-one, pow_pos}
+use Rattle.std.proofs.Common.{ℕ, ◌+◌, ◌*◌, ◌%◌, ◌^◌, ◌<◌, ◌≤◌, max, eqb, ltb, List, length, take, get_or, length-take, sym, le_refl}
+use Rattle.std.proofs.Common.{eq-or-lt_of_le, add-one, pow_pos}
+use Rattle.std.proofs.lemmas.List.{get_or-take}
+use native.Mathlib.Decide.{dec_lt}
 use lib.Bits.{bit_or, or_add_and, and_le_l, and_le_r}
-use Rattle.machine.proofs.Rules.{◌≡◌, refl, cond, false, Bool, ◌||◌, true, ◌&&◌, ⊎_elim, inl, inr}
-use Rattle.machine.proofs.Rules.{arith, eq-eqb, ne_eqb, leb-true, eqb-true, lt-ltb, le-leb, le-ltb, ltb-true}
+use lib.Pow.{shl_exact}
+use Rattle.machine.proofs.Rules.{◌≡◌, ◌∙◌, refl, cond, false, Bool, ◌||◌, true, ◌&&◌, ⊎_elim, inl, inr}
+use Rattle.machine.proofs.Rules.{arith, eq-eqb, ne_eqb, eqb-true, lt-ltb, le-ltb, ltb-true}
 use Rattle.machine.specs.Below.{all_below}
 use Rattle.machine.specs.Range.{place_test, word_test}
 use Rattle.machine.specs.declared.Setup.{Setup}
@@ -17,22 +21,35 @@ use Rattle.machine.proofs.Facts.Tests.{by_cond, both, and_left, and_right, same_
 use Rattle.ranges.specs.Tests.{Greatest, past_test}
 
 module _ {xs : List ℕ} where
-  pub of_none : Greatest xs 0 0
-  of_none = record { most = λ i l. omega arith; met = inl refl }
-
   -- one place more, with a larger number or without
-  pub larger : {i r : ℕ} → r < get_or xs i 0 → Greatest xs i r → Greatest xs (i + 1) (get_or xs i 0)
+  larger : {i r : ℕ} → r < get_or xs i 0 → Greatest xs i r → Greatest xs (i + 1) (get_or xs i 0)
   larger {i} {r} h g =
       record {
         most = λ j m. ⊎_elim (λ e. rw e (le_refl _)) (λ n. omega (arith, g.most j n)) (eq-or-lt_of_le {n = j} {m = i} (omega arith));
         met = inr (i, (omega arith, refl));
       }
 
-  pub no_larger : {i r : ℕ} → get_or xs i 0 ≤ r → Greatest xs i r → Greatest xs (i + 1) r
+  no_larger : {i r : ℕ} → get_or xs i 0 ≤ r → Greatest xs i r → Greatest xs (i + 1) r
   no_larger {i} {r} h g =
       record {
         most = λ j m. ⊎_elim (λ e. rw e h) (λ n. g.most j n) (eq-or-lt_of_le {n = j} {m = i} (omega arith));
         met = ⊎_elim inl (λ w. inr (w.0, (omega (arith, w.1.0), w.1.1))) g.met;
+      }
+
+  pub one_number : {i r : ℕ} → Greatest xs i r → Greatest xs (i + 1) (max r (get_or xs i 0))
+  one_number {i} {r} g = go (dec_lt r (get_or xs i 0))
+    where
+      go : Dec (r < get_or xs i 0) → Greatest xs (i + 1) (max r (get_or xs i 0))
+      go (yes l) = let m : max r (get_or xs i 0) ≡ get_or xs i 0 = omega arith in rw m (larger l g)
+      go (no d) = let m : max r (get_or xs i 0) ≡ r = omega (arith, d) in rw m (no_larger (omega (arith, d)) g)
+
+  -- the first numbers by themselves
+  pub of_front : {e r : ℕ} → e ≤ length xs → Greatest (take e xs) (length (take e xs)) r → Greatest xs e r
+  of_front {e} {r} l g =
+      let all : length (take e xs) ≡ e = omega (arith, length-take e xs) in
+      record {
+        most = λ i k. rw (sym (get_or-take e xs i 0 k)) (g.most i (omega arith));
+        met = ⊎_elim inl (λ w. let k : w.0 < e = omega (arith, w.1.0) in inr (w.0, (k, sym (get_or-take e xs w.0 0 k) ∙ w.1.1))) g.met;
       }
 
   -- a test that fails where the greatest stands
@@ -79,19 +96,21 @@ module _ (q : List ℕ) (m n : ℕ) where
     go i l true e = lt-ltb (get_or q i 0) n (omega (arith, g.most i l))
     go i l false e = refl
 
--- the words ws, each at most the greatest of a setup's bits
-module _ {ws : List ℕ} {e r top : ℕ} (c : Setup) (m : top ≡ 2 ^ c.bits - 1) (g : Greatest ws e r) where
-  pub words_decide : all_below e (word_test c ws) ≡ leb r top
+-- the words ws, each of a setup's bits
+module _ {ws : List ℕ} {e r : ℕ} (c : Setup) (g : Greatest ws e r) where
+  pub words_decide : all_below e (word_test c ws) ≡ ltb r (2 ^ c.bits)
   words_decide =
-      same_test (all_below e (word_test c ws)) (leb r top)
+      same_test (all_below e (word_test c ws)) (ltb r (2 ^ c.bits))
       (λ t.
-      le-leb r top
+      lt-ltb r (2 ^ c.bits)
       (⊎_elim
-      (λ z. omega arith)
-      (λ w.
-      let low = ltb-true (get_or ws w.0 0) (2 ^ c.bits) (all_at e (word_test c ws) t w.0 w.1.0) in
-      omega (arith, m, w.1.1, low))
+      (λ z. omega (arith, z, pow_pos c.bits))
+      (λ w. omega (arith, w.1.1, ltb-true (get_or ws w.0 0) (2 ^ c.bits) (all_at e (word_test c ws) t w.0 w.1.0)))
       g.met))
       (λ t.
-      all_in e (word_test c ws)
-      (λ i s. lt-ltb (get_or ws i 0) (2 ^ c.bits) (omega (arith, m, g.most i s, leb-true r top t, pow_pos c.bits))))
+      let low : r < 2 ^ c.bits = ltb-true r (2 ^ c.bits) t in
+      all_in e (word_test c ws) (λ i s. lt-ltb (get_or ws i 0) (2 ^ c.bits) (omega (arith, g.most i s))))
+
+-- 1 shifted by a byte's bits at most
+pub shifted_16 : (n : ℕ) → n ≤ 8 → (1 * 2 ^ n) % 65536 ≡ 2 ^ n
+shifted_16 n k = shl_exact {a = 1} 1 n 16 (omega arith) (omega arith) ∙ omega arith

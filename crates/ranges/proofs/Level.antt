@@ -2,12 +2,13 @@
 --     node_test        the test of a node's counter
 --     level_test_lem      that of a counter of a level
 --     doubled_le, depth_4    the levels of L leaves
-use Rattle.std.proofs.Common.{ℕ, ◌+◌, ◌-◌, ◌*◌, ◌/◌, ◌%◌, ◌^◌, ◌<◌, ◌≤◌, eqb, leb, List, get_or, add-mul, mul-le-mul_left, mul-add, div-mul-le_self, div-one, add-one, pow_pos, pow_mono, shr-shr}
+use Rattle.std.proofs.Common.{ℕ, ◌+◌, ◌-◌, ◌*◌, ◌/◌, ◌%◌, ◌^◌, ◌<◌, ◌≤◌, eqb, leb, ltb, List, get_or, add-mul, mul-le-mul_left, mul-add}
+use Rattle.std.proofs.Common.{div-mul-le_self, div-one, add-one, pow_pos, pow_mono, shr-shr}
 use native.Mathlib.Decide.{dec_lt}
 use native.Mathlib.Nat.{pow-succ'}
 use lib.Count.{ones}
-use Rattle.machine.proofs.Rules.{◌≡◌, ◌∙◌, sym, ap, refl, Bool, true, cond, ◌||◌}
-use Rattle.machine.proofs.Rules.{arith, eqb-true, ne_eqb, leb-true, lt-leb}
+use Rattle.machine.proofs.Rules.{◌≡◌, ◌∙◌, sym, ap, refl, Bool, true, cond, not, ◌&&◌, ◌||◌}
+use Rattle.machine.proofs.Rules.{arith, eqb-true, ne_eqb, leb-true, lt-leb, le-leb, lt-ltb}
 use Rattle.machine.specs.Below.{all_below}
 use Rattle.machine.specs.Range.{counter_test}
 use Rattle.machine.specs.Setup.{names, is_leaves, log2}
@@ -93,6 +94,21 @@ unfolding doubles_in
 doubled_le l d e d5 low =
     leb-true (2 ^ (d + 1)) l
     (rw (lt-leb l (2 ^ d) low) at (all_at 5 (λ x. leb l (2 ^ x) || leb (2 ^ (x + 1)) l) (by_leaves doubles_in doubles l e) d d5))
+
+-- L is a power of 2
+powers_in : ℕ → Bool
+powers_in l = all_below 8 (λ h. not (leb (2 ^ h) l && ltb l (2 * 2 ^ h)) || eqb (2 ^ h) l)
+
+powers : all_below 17 (λ l. cond (is_leaves l) (powers_in l) true) ≡ true
+unfolding all_below powers_in is_leaves
+powers = refl
+
+pub power_of : (l h : ℕ) → is_leaves l ≡ true → h < 8 → 2 ^ h ≤ l → l < 2 * 2 ^ h → 2 ^ h ≡ l
+unfolding powers_in
+power_of l h e h8 low high =
+    eqb-true (2 ^ h) l
+    (rw (le-leb (2 ^ h) l low, lt-ltb l (2 * 2 ^ h) high) at
+    (all_at 8 (λ x. not (leb (2 ^ x) l && ltb l (2 * 2 ^ x)) || eqb (2 ^ x) l) (by_leaves powers_in powers l e) h h8))
 
 pub depth_4 : (l d : ℕ) → l ≤ 16 → 2 ^ d < l → d < 4
 depth_4 l d l16 low = go (dec_lt d 4)

@@ -1,43 +1,53 @@
 -- A look at all processes decides their tests: the greater of two numbers passes where both do, so that one process more is its own tests
 -- beside those of the others; and the tests of a process are those of its numbers, a node less 1 and a name more 1. By cases.
---     found_none, one_more    what was found of no process, and with one more
---     process_tests_lem     the tests of a process whose name is not closed
---     process_open      a process in range has no closed name
---     names_open        with none closed no name is
--- Assumes nothing.
-use mathlib.Core.Bool.{and_assoc, or-false}
-use Rattle.std.proofs.Common.{ℕ, ◌+◌, ◌-◌, ◌*◌, ◌/◌, ◌%◌, ◌^◌, ◌<◌, ◌≤◌, eqb, ltb, leb, mod-lt, mod-eq_of_lt, pow_pos, pow_mono}
+--     found_none, one_more, found_one    what was found of no process, with one more, and of one
+--     all_shown, shut_out, numbers_decide    the names of all, and past them the numbers
+use mathlib.Core.Bool.{or-false}
+use Rattle.std.proofs.Common.{ℕ, ◌+◌, ◌-◌, ◌*◌, ◌/◌, ◌%◌, ◌^◌, ◌<◌, ◌≤◌, max, eqb, ltb, leb, List, get_or, mod-lt, mod-eq_of_lt, pow_pos}
+use Rattle.std.proofs.Common.{pow_mono}
 use native.Mathlib.Decide.{ℕ_discrete, dec_lt}
 use native.Mathlib.Nat.{div-eq_of_lt, zero-div}
 use lib.Bits.{bit_or}
 use Rattle.machine.proofs.Rules.{◌≡◌, ◌∙◌, sym, ap, refl, Bool, true, false, cond, ◌&&◌, and-true, and-false, or-true, ◌≢◌, false≢true}
-use Rattle.machine.proofs.Rules.{arith, leb-true, ltb-true, ltb-false, le-leb, lt-leb, lt-ltb, le-ltb, eq-eqb, ne_eqb}
+use Rattle.machine.proofs.Rules.{arith, leb-true, ltb-true, le-leb, lt-leb, lt-ltb, le-ltb, eq-eqb, ne_eqb}
 use Rattle.machine.specs.Closed.{is_open}
+use Rattle.machine.specs.Below.{all_below}
 use Rattle.machine.specs.Operations.{bit}
 use Rattle.machine.specs.Range.{name_test, process_tests, process_test}
 use Rattle.machine.specs.Setup.{names, setup_answer}
 use Rattle.machine.specs.Stage.{exhausted}
-use Rattle.machine.specs.State.{figure}
+use Rattle.machine.specs.State.{no_process, figure}
 use Rattle.machine.specs.declared.Process.{Process}
 use Rattle.machine.specs.declared.Setup.{Setup}
-use Rattle.machine.proofs.Facts.Tests.{all_of_lem, by_cond, both, and_left, and_right, same_test}
+use Rattle.machine.proofs.Facts.Below.{all_in, all_at, all_same}
+use Rattle.machine.proofs.Facts.Tests.{all_of_lem, both, and_left, and_right, same_test}
 use Rattle.machine.proofs.Facts.Words.{bit-mod}
 use Rattle.machine.proofs.Ranges.{limits_of, closed_of}
-use Rattle.ranges.specs.Tests.{name_limit, shut_test, found}
+use Rattle.ranges.specs.Tests.{name_limit, shut_test, ranked}
 use Rattle.ranges.proofs.Bounds.{or-none}
 
-greater_most : (a b m : ℕ) → leb (cond (ltb a b) b a) m ≡ (leb b m && leb a m)
-greater_most a b m =
-    by_cond (λ (x : ℕ). leb x m ≡ (leb b m && leb a m)) (ltb a b)
-    (λ t. same_test (leb b m) (leb b m && leb a m)
-    (λ e. both e (le-leb a m (omega (arith, ltb-true a b t, leb-true b m e))))
-    (λ e. and_left (leb b m) (leb a m) e))
-    (λ t. same_test (leb a m) (leb b m && leb a m)
-    (λ e. both (le-leb b m (omega (arith, ltb-false a b t, leb-true a m e))) e)
-    (λ e. and_right (leb b m) (leb a m) e))
+-- the greater of two numbers passes where both do
+most_le : (a b m : ℕ) → leb (max a b) m ≡ (leb b m && leb a m)
+most_le a b m =
+    same_test (leb (max a b) m) (leb b m && leb a m)
+    (λ e.
+    let low : max a b ≤ m = leb-true (max a b) m e in
+    both (le-leb b m (omega arith)) (le-leb a m (omega arith)))
+    (λ e.
+    let first : a ≤ m = leb-true a m (and_right (leb b m) (leb a m) e) in
+    let second : b ≤ m = leb-true b m (and_left (leb b m) (leb a m) e) in
+    le-leb (max a b) m (omega arith))
 
-greater_is : {x : ℕ} (a b m : ℕ) → x ≡ cond (ltb a b) b a → leb x m ≡ (leb b m && leb a m)
-greater_is a b m e = ap (λ (x : ℕ). leb x m) e ∙ greater_most a b m
+most_lt : (a b m : ℕ) → ltb (max a b) m ≡ (ltb b m && ltb a m)
+most_lt a b m =
+    same_test (ltb (max a b) m) (ltb b m && ltb a m)
+    (λ e.
+    let low : max a b < m = ltb-true (max a b) m e in
+    both (lt-ltb b m (omega arith)) (lt-ltb a m (omega arith)))
+    (λ e.
+    let first : a < m = ltb-true a m (and_right (ltb b m) (ltb a m) e) in
+    let second : b < m = ltb-true b m (and_left (ltb b m) (ltb a m) e) in
+    lt-ltb (max a b) m (omega arith))
 
 -- two tests of a process and of those before it, taken together
 joined : {x y : Bool} (a s b t : Bool) → x ≡ (a && s) → y ≡ (b && t) → (x && y) ≡ ((a && b) && (s && t))
@@ -54,30 +64,37 @@ module _ (c : Setup) where
   named name over = leb name (name_limit c) && eqb over 0
 
   abbrev placed : ℕ → ℕ → ℕ → Bool
-  placed segment name over = leb segment (c.segments - 1) && named name over
+  placed segment name over = ltb segment c.segments && named name over
 
   abbrev rooted : ℕ → ℕ → ℕ → ℕ → Bool
   rooted node segment name over = leb node (2 * c.leaves - 2) && placed segment name over
 
-  pub found_none : found c 0 0 0 0 0 ≡ true
-  found_none =
+  -- the greatest stage, node (less 1), segment and name (more 1), each at most what it may be, and no sum above 255
+  abbrev pub found : ℕ → ℕ → ℕ → ℕ → ℕ → Bool
+  found stage node segment name over = leb stage exhausted && rooted node segment name over
+
+  pub found_none : 1 ≤ c.segments → found 0 0 0 0 0 ≡ true
+  found_none g1 =
       both (le-leb 0 exhausted (omega arith))
       (both (le-leb 0 (2 * c.leaves - 2) (omega arith))
-      (both (le-leb 0 (c.segments - 1) (omega arith)) (both (le-leb 0 (name_limit c) (omega arith)) refl)))
+      (both (lt-ltb 0 c.segments g1) (both (le-leb 0 (name_limit c) (omega arith)) refl)))
 
-  pub one_more :
-      (stage node segment name over u v w m x : ℕ) {u' v' w' m' : ℕ}
-      → u' ≡ cond (ltb stage u) u stage → v' ≡ cond (ltb node v) v node → w' ≡ cond (ltb segment w) w segment
-      → m' ≡ cond (ltb name m) m name
-      → found c u' v' w' m' (bit_or over x) ≡ (found c u v w m x && found c stage node segment name over)
-  one_more stage node segment name over u v w m x e f g h =
-      joined (leb u exhausted) (leb stage exhausted) (rooted v w m x) (rooted node segment name over) (greater_is stage u exhausted e)
+  pub one_more : (stage node segment name over u v w m x : ℕ)
+      → found (max stage u) (max node v) (max segment w) (max name m) (bit_or over x)
+      ≡ (found u v w m x && found stage node segment name over)
+  one_more stage node segment name over u v w m x =
+      joined (leb u exhausted) (leb stage exhausted) (rooted v w m x) (rooted node segment name over) (most_le stage u exhausted)
       (joined (leb v (2 * c.leaves - 2)) (leb node (2 * c.leaves - 2)) (placed w m x) (placed segment name over)
-      (greater_is node v (2 * c.leaves - 2) f)
-      (joined (leb w (c.segments - 1)) (leb segment (c.segments - 1)) (named m x) (named name over)
-      (greater_is segment w (c.segments - 1) g)
+      (most_le node v (2 * c.leaves - 2))
+      (joined (ltb w c.segments) (ltb segment c.segments) (named m x) (named name over)
+      (most_lt segment w c.segments)
       (joined (leb m (name_limit c)) (leb name (name_limit c)) (eqb x 0) (eqb over 0)
-      (greater_is name m (name_limit c) h) (or-none over x))))
+      (most_le name m (name_limit c)) (or-none over x))))
+
+  -- of one process
+  pub found_one : (h : Process) (v m x : ℕ) → leb v (2 * c.leaves - 2) ≡ (leb 1 h.node && ltb h.node (2 * c.leaves))
+      → m ≡ (h.name + 1) % 256 → eqb x 0 ≡ leb (figure h) 255 → found h.stage v h.segment m x ≡ ranked c h
+  found_one h v m x node name over = rw (node, name, over)
 
 -- bit 63 of what is below 2^63
 no_bit_63 : (w : ℕ) → bit (w % 2 ^ 63) 63 ≡ 0
@@ -119,11 +136,11 @@ module _ (c : Setup) (accepted : setup_answer c ≡ 0) (m : ℕ) (m255 : m ≤ 2
   own l = simp (lt-ltb m k l, ne_eqb m 255 (λ q. absurd (omega (arith, l, k64, q))), or-false)
 
   -- no name, and name 63, are looked up as 63
-  at_63 : m % 64 ≡ 63 → shut_test c m ≡ true
+  at_63 : m % 64 ≡ 63 → shut_test c.closed m ≡ true
   at_63 e = eq-eqb _ 0 (ap (λ (x : ℕ). bit (c.closed % 2 ^ 63) x) e ∙ no_bit_63 c.closed)
 
   -- a name below 63 by its bit
-  below_63 : m < 63 → shut_test c m ≡ is_open c m
+  below_63 : m < 63 → shut_test c.closed m ≡ is_open c m
   unfolding is_open
   below_63 l =
       ap (λ (x : ℕ). eqb x 0)
@@ -141,16 +158,16 @@ module _ (c : Setup) (accepted : setup_answer c ≡ 0) (m : ℕ) (m255 : m ≤ 2
       ne_eqb _ 0 (λ n. absurd (z (omega (arith, high_low, sym (ap (λ (x : ℕ). bit c.closed x) e) ∙ n))))
       ∙ sym (lt-leb ((m + 1) % 256) 63 (omega (arith, e))))
 
-  pub name_ranked : name_test c m ≡ (leb ((m + 1) % 256) (name_limit c) && shut_test c m)
+  pub name_ranked : name_test c m ≡ (leb ((m + 1) % 256) (name_limit c) && shut_test c.closed m)
   name_ranked = go (ℕ_discrete m 255) (dec_lt m k)
     where
-      go : Dec (m ≡ 255) → Dec (m < k) → name_test c m ≡ (leb ((m + 1) % 256) (name_limit c) && shut_test c m)
+      go : Dec (m ≡ 255) → Dec (m < k) → name_test c m ≡ (leb ((m + 1) % 256) (name_limit c) && shut_test c.closed m)
       go (yes q) _ =
           simp (eq-eqb m 255 q, or-true)
           (sym (both (le-leb ((m + 1) % 256) (name_limit c) (omega (arith, q))) (at_63 (omega (arith, q)))))
       go (no q) (yes l) = low (ℕ_discrete m 63)
         where
-          low : Dec (m ≡ 63) → name_test c m ≡ (leb ((m + 1) % 256) (name_limit c) && shut_test c m)
+          low : Dec (m ≡ 63) → name_test c m ≡ (leb ((m + 1) % 256) (name_limit c) && shut_test c.closed m)
           low (yes e) =
               own l ∙ last e l
               ∙ sym (ap (λ (t : Bool). leb ((m + 1) % 256) (name_limit c) && t) (at_63 (omega (arith, e))) ∙ and-true _)
@@ -158,24 +175,22 @@ module _ (c : Setup) (accepted : setup_answer c ≡ 0) (m : ℕ) (m255 : m ≤ 2
               let fits = by_limit (λ (x : ℕ). leb ((m + 1) % 256) x ≡ true)
               (λ _. le-leb ((m + 1) % 256) k (omega (arith, l, k64)))
               (λ _. le-leb ((m + 1) % 256) 63 (omega (arith, l, k64, e))) in
-              own l ∙ sym (below_63 (omega (arith, l, k64, e))) ∙ sym (ap (λ (t : Bool). t && shut_test c m) fits)
+              own l ∙ sym (below_63 (omega (arith, l, k64, e))) ∙ sym (ap (λ (t : Bool). t && shut_test c.closed m) fits)
       go (no q) (no l) =
           let out = by_limit (λ (x : ℕ). leb ((m + 1) % 256) x ≡ false)
           (λ _. lt-leb ((m + 1) % 256) k (omega (arith, l, m255, q)))
           (λ z. lt-leb ((m + 1) % 256) 63 (omega (arith, l, m255, q, all_64 z))) in
-          simp (le-ltb m k (omega (arith, l)), ne_eqb m 255 q) (sym (ap (λ (t : Bool). t && shut_test c m) out))
+          simp (le-ltb m k (omega (arith, l)), ne_eqb m 255 q) (sym (ap (λ (t : Bool). t && shut_test c.closed m) out))
 
--- a segment below g, as the code tests it
-segment_below : (i g : ℕ) → 1 ≤ g → leb i (g - 1) ≡ ltb i g
-segment_below i g g1 =
-    same_test (leb i (g - 1)) (ltb i g)
-    (λ t. lt-ltb i g (omega (arith, g1, leb-true i (g - 1) t)))
-    (λ t. le-leb i (g - 1) (omega (arith, ltb-true i g t)))
-
-regrouped : (a b c d e f : Bool) → (a && ((b && c) && (d && (e && f)))) ≡ (a && (b && (c && (d && (e && (f && true))))))
-regrouped a b c d e f =
-    ap (λ (t : Bool). a && ((b && c) && (d && (e && t)))) (sym (and-true f))
-    ∙ ap (λ (t : Bool). a && t) (and_assoc b c (d && (e && (f && true))))
+regrouped : (a b c d e s f : Bool)
+    → (a && (b && (c && (d && ((e && s) && (f && true)))))) ≡ ((a && ((b && c) && (d && (e && f)))) && s)
+regrouped false b c d e s f = refl
+regrouped true false c d e s f = refl
+regrouped true true false d e s f = refl
+regrouped true true true false e s f = refl
+regrouped true true true true false s f = refl
+regrouped true true true true true false f = sym (and-false f)
+regrouped true true true true true true f = refl
 
 module _ (c : Setup) (accepted : setup_answer c ≡ 0) (h : Process) where
   -- a name in its range is a byte
@@ -192,26 +207,54 @@ module _ (c : Setup) (accepted : setup_answer c ≡ 0) (h : Process) where
           ) at e))
       go (no l) = omega (arith, l)
 
-  pub process_open : process_test c h ≡ true → shut_test c h.name ≡ true
+  pub process_open : process_test c h ≡ true → shut_test c.closed h.name ≡ true
   process_open e =
       let name : name_test c h.name ≡ true = all_of_lem (process_tests c h) e 4 in
       let ranked = sym (name_ranked c accepted h.name (name_255 name)) ∙ name in
-      and_right (leb ((h.name + 1) % 256) (name_limit c)) (shut_test c h.name) ranked
+      and_right (leb ((h.name + 1) % 256) (name_limit c)) (shut_test c.closed h.name) ranked
 
-  pub process_tests_lem :
-      (v x : ℕ) {m : ℕ} → m ≡ (h.name + 1) % 256 → h.name ≤ 255 → shut_test c h.name ≡ true
-      → leb v (2 * c.leaves - 2) ≡ (leb 1 h.node && ltb h.node (2 * c.leaves)) → eqb x 0 ≡ leb (figure h) 255
-      → found c h.stage v h.segment m x ≡ process_test c h
-  process_tests_lem v x {m} rank m255 shut node over =
-      let most = leb ((h.name + 1) % 256) (name_limit c) in
-      let name : name_test c h.name ≡ most
-      = name_ranked c accepted h.name m255 ∙ ap (λ (t : Bool). most && t) shut ∙ and-true most in
-      rw (node, segment_below h.segment c.segments (limits_of c accepted).g1, rank, sym name, over)
+  -- a process whose name is a byte is tested by its numbers and by its name
+  pub process_parts : h.name ≤ 255 → process_test c h ≡ (ranked c h && shut_test c.closed h.name)
+  process_parts m255 =
+      rw (name_ranked c accepted h.name m255)
       (regrouped (leb h.stage exhausted) (leb 1 h.node) (ltb h.node (2 * c.leaves)) (ltb h.segment c.segments)
-      (name_test c h.name) (leb (figure h) 255))
+      (leb ((h.name + 1) % 256) (name_limit c)) (shut_test c.closed h.name) (leb (figure h) 255))
 
 -- with none closed no name is
-pub names_open : (c : Setup) (m : ℕ) → c.closed ≡ 0 → shut_test c m ≡ true
-names_open c m e =
-    eq-eqb (bit (c.closed % 2 ^ 63) (m % 64)) 0
+pub names_open : (closed m : ℕ) → closed ≡ 0 → shut_test closed m ≡ true
+names_open closed m e =
+    eq-eqb (bit (closed % 2 ^ 63) (m % 64)) 0
     (ap (λ (x : ℕ). bit (x % 2 ^ 63) (m % 64)) e ∙ ap (λ (x : ℕ). x % 2) (zero-div (2 ^ (m % 64))))
+
+-- the first n processes of a list
+module _ (c : Setup) (accepted : setup_answer c ≡ 0) (ps : List Process) (n : ℕ) where
+  abbrev tested : ℕ → Bool
+  tested p = process_test c (get_or ps p no_process)
+
+  abbrev shown : ℕ → Bool
+  shown p = shut_test c.closed (get_or ps p no_process).name
+
+  pub all_shown : c.closed ≡ 0 → all_below n shown ≡ true
+  all_shown e = all_in n shown (λ p _. names_open c.closed (get_or ps p no_process).name e)
+
+  -- a closed name puts a process out of range
+  pub shut_out : all_below n shown ≡ false → false ≡ all_below n tested
+  shut_out e = go (all_below n tested) refl
+    where
+      go : (t : Bool) → all_below n tested ≡ t → false ≡ t
+      go false f = refl
+      go true f =
+          absurd
+          (false≢true (sym e ∙ all_in n shown (λ p l. process_open c accepted (get_or ps p no_process) (all_at n tested f p l))))
+
+  -- where no name is closed the numbers decide
+  pub numbers_decide : all_below n shown ≡ true → ((p : ℕ) → p < n → (get_or ps p no_process).name ≤ 255)
+      → all_below n (λ p. ranked c (get_or ps p no_process)) ≡ all_below n tested
+  numbers_decide e bytes =
+      all_same n (λ p. ranked c (get_or ps p no_process)) tested
+      (λ p l.
+      let h = get_or ps p no_process in
+      sym
+      (process_parts c accepted h (bytes p l)
+      ∙ ap (λ (t : Bool). ranked c h && t) (all_at n shown e p l)
+      ∙ and-true (ranked c h)))

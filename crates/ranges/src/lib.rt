@@ -2,4 +2,5 @@
 #![tactic(auto)]
 
 mod counters;
+mod processes;
 pub mod range;

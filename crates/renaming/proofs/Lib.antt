@@ -1,4 +1,3 @@
 -- What the functions' proofs share.
-pub mod OneEvent
-pub mod Signs
 pub mod Listed
+pub mod Signs

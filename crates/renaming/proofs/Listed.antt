@@ -5,9 +5,10 @@ use Prim.Native.Nat.{ℕ, ◌^◌}
 use lib.Dec.{ltb}
 use Rattle.machine.proofs.Rules.{◌≡◌, ◌≢◌, ◌∙◌, sym, refl, false, arith}
 use Rattle.machine.specs.Closed.{closed_by, lists_below}
-use Rattle.machine.specs.Setup.{given, plain, names, number_answer, setup_answer}
+use Rattle.machine.specs.Setup.{given_of, plain_of, names, number_answer, setup_answer}
 use Rattle.machine.specs.State.{setup, partial_setup}
 use Rattle.machine.specs.declared.Setup.{Setup}
+use Rattle.machine.specs.declared.numbers.Numbers.{Numbers}
 use Rattle.machine.proofs.Closed.{closed_below}
 use Rattle.machine.proofs.Facts.Leaves.{leaves_high}
 use Rattle.machine.proofs.Laws.Partial.{partial_is_setup}
@@ -19,12 +20,12 @@ use Rattle.machine.proofs.Ranges.{limits_of}
 pub every_counter : (c : Setup) → partial_setup c 15 ≡ setup c
 every_counter c = partial_is_setup c 15 (λ e. omega (arith, leaves_high c.leaves (limits_of c e).leaves))
 
-module _ (n l g b : ℕ) (ps : List ℕ) where
+module _ (n : Numbers) (ps : List ℕ) where
   abbrev four : Setup
-  four = plain n l g b
+  four = plain_of n
 
   abbrev c : Setup
-  c = given n l g b ps
+  c = given_of ps n
 
   same_numbers : number_answer c ≡ setup_answer four
   unfolding number_answer

@@ -1,44 +1,39 @@
-// One event: request (document 01: ask), step (turn), release (finish).
+// One event: request (document 01: ask), step (turn), release (finish). A refused one leaves the state as it is.
 ghost use Rattle.std.specs.Prelude.{◌≡◌};
 ghost use Rattle.machine.specs.Event;
-ghost use Rattle.machine.specs.Kind;
+ghost use Rattle.machine.specs.Kind.{request as Kind·request, step as Kind·step, release as Kind·release};
+ghost use Rattle.machine.specs.Refusal.{answered};
+ghost use Rattle.machine.specs.State.{done};
 
-use machine::{Done, State, answer, kind};
+use machine::{Kind, Refusal, State};
 use ranges::range;
 
 // Kind 0 requests, 1 steps, 2 releases. 15 for the state, 12 for the kind, 6 for the process, then what the event answers.
-pub fn event(state: State, kind: u8, process: u8) -> Done
-    ensures { result ≡ Event.event state kind process }
+#[tactic(auto, unfolding(machine::specs::Event::event))]
+pub fn event(state: &mut State, kind: u8, process: u8) -> Result<(), Refusal>
+    ensures { done (answered result) state.new ≡ Event.event state.old kind process }
 {
     if !range::in_range(state) {
-        return Done {
-            answer: answer::BROKEN_STATE,
-            state: state,
-        };
+        return Err(Refusal::BrokenState);
     }
-    let list = [kind, process];
-    let mut entry = [0u8; 4];
-    let after = runner::run_checked(state, &list, &mut entry);
-    Done {
-        answer: entry[0],
-        state: after,
-    }
+    operations::event(state, kind, process)
 }
 
-pub fn request(state: State, process: u8) -> Done
-    ensures { result ≡ Event.event state Kind.request process }
+// The three events by name: three calls, since document 01 and C have a call for each.
+pub fn request(state: &mut State, process: u8) -> Result<(), Refusal>
+    ensures { done (answered result) state.new ≡ Event.event state.old Kind·request process }
 {
-    event(state, kind::REQUEST, process)
+    event(state, Kind::Request.into(), process)
 }
 
-pub fn step(state: State, process: u8) -> Done
-    ensures { result ≡ Event.event state Kind.step process }
+pub fn step(state: &mut State, process: u8) -> Result<(), Refusal>
+    ensures { done (answered result) state.new ≡ Event.event state.old Kind·step process }
 {
-    event(state, kind::STEP, process)
+    event(state, Kind::Step.into(), process)
 }
 
-pub fn release(state: State, process: u8) -> Done
-    ensures { result ≡ Event.event state Kind.release process }
+pub fn release(state: &mut State, process: u8) -> Result<(), Refusal>
+    ensures { done (answered result) state.new ≡ Event.event state.old Kind·release process }
 {
-    event(state, kind::RELEASE, process)
+    event(state, Kind::Release.into(), process)
 }

@@ -1,4 +1,4 @@
-// The calls on the finish box's state. Each refuses bad input with document 01's number; one that changes the state gives it by value.
+// The calls on the finish box's state. Each refuses bad input with document 01's number; one that changes the state is lent it.
 #![tactic(auto)]
 
 pub mod event;

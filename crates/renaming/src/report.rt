@@ -1,43 +1,29 @@
 // The gate report.
-ghost use Rattle.std.specs.Prelude.{◌≡◌, true, neg_ℤ};
-ghost use Rattle.machine.specs.Range.{gate_in_range};
+ghost use Rattle.std.specs.Prelude.{◌≡◌};
+ghost use Rattle.machine.specs.Outcome.{as_report};
 ghost use Rattle.machine.specs.Reports.{positive_part, gate_report};
 
-use machine::{Report, State, answer};
+use machine::{GateReport, Refusal, State};
 use ranges::range;
 
 // A number from -64 to 64, or 0 when it is negative.
+#[tactic(auto, unfolding(machine::specs::Reports::positive_part))]
 fn positive_part(a: i8) -> u8
     ensures { result ≡ positive_part a }
 {
-    if a > 0 { a as u8 } else { 0 }
+    u8::try_from(a).unwrap_or(0)
 }
 
-// The gate word's negation.
-fn negated(a: i8) -> i8
-    requires { gate_in_range 64 a ≡ true }
-    ensures { result ≡ neg_ℤ a }
+// Names still free at the gate, and processes queued there; 15 for the state.
+#[tactic(auto, unfolding(machine::specs::Reports::gate_report))]
+pub fn gate_report(state: &State) -> Result<GateReport, Refusal>
+    ensures { as_report result ≡ gate_report state.now }
 {
-    -a
-}
-
-// Names still free at the gate, and processes queued there; 15 for the state, with figures 0.
-pub fn gate_report(state: State) -> Report
-    ensures { result ≡ gate_report state }
-{
-    // `in_range` spelled out: called from two places, the survey stays a function of its own, and the compiler takes numbers of a process
-    // at once.
-    if !range::fits(range::survey(state)) {
-        return Report {
-            answer: answer::BROKEN_STATE,
-            free: 0,
-            queued: 0,
-        };
+    if !range::in_range(state) {
+        return Err(Refusal::BrokenState);
     }
-    let down = negated(state.gate);
-    Report {
-        answer: answer::ACCEPTED,
+    Ok(GateReport {
         free: positive_part(state.gate),
-        queued: positive_part(down),
-    }
+        queued: positive_part(-state.gate),
+    })
 }

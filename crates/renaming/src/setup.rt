@@ -1,69 +1,47 @@
 // The setup: its numbers checked, and the state that it gives.
 ghost use Rattle.std.specs.Prelude.{◌≡◌};
-ghost use Rattle.machine.specs.Setup.{given, plain};
-ghost use Rattle.machine.specs.State;
-ghost use Rattle.machine.specs.State.{done, blank};
+ghost use Rattle.machine.specs.Outcome.{as_done};
+ghost use Rattle.machine.specs.Setup.{given_of, plain_of};
+ghost use Rattle.machine.specs.State.{blank, setup as State·setup, partial_setup as State·partial_setup};
 
-use fresh::{closing, limits, state};
-use machine::{Done, Setup, answer};
+use fresh::accepted::Accepted;
+use fresh::closing;
+use machine::{Numbers, Refusal, Setup, State};
 
 // A count that no setup's counters pass: at most nodes 1 to 15 carry one.
 const EVERY: u64 = 15;
 
-// What a refused setup gives.
-fn refused(a: u8) -> Done
-    ensures { result ≡ done a blank }
+// The state of a setup that is accepted, with so many counters filled, from node l - 1 up to node 1, and the others 0.
+fn made(setup: Setup, count: u64) -> Result<State, Refusal>
+    ensures { as_done blank result ≡ State·partial_setup setup count }
 {
-    Done {
-        answer: a,
-        state: state::blank_state(),
-    }
+    let accepted = Accepted::try_from(setup)?;
+    Ok(accepted.state(count))
 }
 
-// The fresh state with so many counters filled, from node l - 1 up to node 1, and the others 0; or the first number that fails, with the
-// blank state.
-fn made(setup: Setup, count: u64) -> Done
-    ensures { result ≡ State.partial_setup setup count }
+// The setup's second form: the state of four numbers, which close none, with so many counters filled. Refused with 1 to 5.
+pub fn partial_setup(numbers: Numbers, count: u64) -> Result<State, Refusal>
+    ensures { as_done blank result ≡ State·partial_setup (plain_of numbers) count }
 {
-    let a = limits::setup_answer(setup);
-    if a != answer::ACCEPTED {
-        return refused(a);
-    }
-    Done {
-        answer: answer::ACCEPTED,
-        state: state::partial_state(setup, count),
-    }
+    made(numbers.into(), count)
 }
 
-// The setup's second form: the state of four numbers, which closes none, with so many counters filled; or 1 to 5 with the blank state.
-pub fn partial_setup(n: u8, l: u8, g: u8, b: u8, count: u64) -> Done
-    ensures { result ≡ State.partial_setup (plain n l g b) count }
+// The fresh state of four numbers, which close none. Refused with 1 to 5.
+#[tactic(auto, using(crate::proofs::Listed::every_counter))]
+pub fn setup(numbers: Numbers) -> Result<State, Refusal>
+    ensures { as_done blank result ≡ State·setup (plain_of numbers) }
 {
-    let setup = limits::setup_of(n, l, g, b, 0);
-    made(setup, count)
+    partial_setup(numbers, EVERY)
 }
 
-// The fresh state of four numbers, which closes none; or 1 to 5 with the blank state.
-pub fn setup(n: u8, l: u8, g: u8, b: u8) -> Done
-    ensures { result ≡ State.setup (plain n l g b) }
+// The fresh state of four numbers and a list of closed names, one byte each, in any order and with doubles. Refused with 1 to 5, with 19
+// where a name is not below k, and with 20 where none stays open.
+pub fn closed_setup(numbers: Numbers, closed: &[u8]) -> Result<State, Refusal>
+    ensures { as_done blank result ≡ State·setup (given_of closed.now numbers) }
 {
-    partial_setup(n, l, g, b, EVERY)
-}
-
-// The fresh state of four numbers and a list of closed names, one byte each, in any order and with doubles; or 1 to 5, 19 where a name is
-// not below k, 20 where none stays open, with the blank state.
-pub fn closed_setup(n: u8, l: u8, g: u8, b: u8, closed: &[u8]) -> Done
-    ensures { result ≡ State.setup (given n l g b closed.now) }
-{
-    let numbers = limits::setup_of(n, l, g, b, 0);
-    let first = limits::setup_answer(numbers);
-    if first != answer::ACCEPTED {
-        return refused(first);
-    }
-    let k = limits::names_of(numbers);
+    let k = Accepted::try_from(Setup::from(numbers))?.names();
     if !closing::are_below(closed, k) {
-        return refused(answer::CLOSED_NAME);
+        return Err(Refusal::ClosedName);
     }
-    let setup = limits::setup_of(n, l, g, b, closing::closed_of(closed, k));
-    made(setup, EVERY)
+    made(numbers.closing(closing::closed_of(closed, k)), EVERY)
 }

@@ -1,5 +1,2 @@
--- What the functions' proofs share.
-pub mod Stores
-pub mod Used
-pub mod Arms
+-- What the runner's proof rests on.
 pub mod Going

@@ -6,14 +6,8 @@
 mod lend;
 mod records;
 
-// A proved loop has to end, and nothing says that the input does. So the loop counts its turns down, from a number that no run uses
-// up.
+use cases::input;
+
 fn main() {
-    let mut turns = u64::MAX;
-    while turns > 0 {
-        if !records::next() {
-            return;
-        }
-        turns -= 1;
-    }
+    input::repeat(|_| records::next());
 }

@@ -1,50 +1,19 @@
--- The lines of a journal, entry by entry, and their lengths.
---     lines_step, lines_end     one entry more, and the end
---     step-length               and how long that makes them
---     figure-length             a figure is as long whatever its end
---     line-length               a line is as long as its four figures
+-- The lines of a journal are those of its entries, and how long they are: by induction on the entries.
+--     figure-length, line-length       a figure is as long whatever its end, and a line as its four figures
+--     lines-entries                    the lines of the whole
+--     lines-more, lines-all            those of one entry more, and those of all entries
 -- Assumes nothing.
 use mathlib.Core.List.{List, [], ◌∷◌, ◌++◌}
-use Prim.Native.Nat.{ℕ, suc, ◌+◌, ◌-◌, ◌≤◌, ◌<◌}
-use native.Mathlib.Numerals.{add-one}
+use Prim.Native.Nat.{ℕ, zero, suc, ◌+◌, ◌/◌, ◌≤◌, ◌<◌}
 use lib.Dec.{eqb}
-use lib.ListN.{length, drop, get_or, length-append, length-drop}
-use lib.Seq.{drop-cons}
-use Rattle.machine.proofs.Rules.{◌≡◌, ◌∙◌, ap, refl, true, false, cond, Bool, arith}
-use Rattle.machine.proofs.Facts.Lists.{add_two, add_three}
-use Rattle.text.specs.Lines.{space, newline, decimal, figure, line, line_at, lines}
+use lib.ListN.{length, take, get_or, length-append}
+use lib.Seq.{take_all}
+use Rattle.std.specs.List.{flat_map}
+use Rattle.std.specs.Simd.{first_chunks}
+use Rattle.std.proofs.lemmas.List.{take_more, flat_map_more}
+use Rattle.machine.proofs.Rules.{◌≡◌, ◌∙◌, sym, ap, refl, true, false, cond, Bool, arith}
+use Rattle.text.specs.Lines.{space, newline, decimal, figure, line, entry_line, lines}
 
-add_four : (n : ℕ) → n + 4 ≡ suc (suc (suc (suc n)))
-add_four n = omega arith
-
-module _ (j : List ℕ) (i : ℕ) (k : i + 4 ≤ length j) where
-  four : drop i j ≡ get_or j i 0 ∷ get_or j (i + 1) 0 ∷ get_or j (i + 2) 0 ∷ get_or j (i + 3) 0 ∷ drop (i + 4) j
-  four =
-      let e₀ = drop-cons j i 0 (omega (arith, k)) in
-      let e₁ = drop-cons j (suc i) 0 (omega (arith, k)) in
-      let e₂ = drop-cons j (suc (suc i)) 0 (omega (arith, k)) in
-      let e₃ = drop-cons j (suc (suc (suc i))) 0 (omega (arith, k)) in
-      rw (add_four i, add_three i, add_two i, add-one i, e₀, e₁, e₂, e₃)
-
-  pub lines_step : lines (drop i j) ≡ line_at j i ++ lines (drop (i + 4) j)
-  unfolding lines
-  lines_step = ap lines four
-
-  pub step-length : length (lines (drop i j)) ≡ length (line_at j i) + length (lines (drop (i + 4) j))
-  step-length = ap (λ (l : List ℕ). length l) lines_step ∙ length-append (line_at j i) (lines (drop (i + 4) j))
-
-no_lines : (j : List ℕ) → length j < 4 → lines j ≡ []
-unfolding lines
-no_lines [] k = refl
-no_lines (a ∷ []) k = refl
-no_lines (a ∷ b ∷ []) k = refl
-no_lines (a ∷ b ∷ c ∷ []) k = refl
-no_lines (a ∷ b ∷ c ∷ d ∷ j) k = absurd (omega (arith, k))
-
-pub lines_end : (j : List ℕ) (i : ℕ) → length j - i < 4 → lines (drop i j) ≡ []
-lines_end j i k = no_lines (drop i j) (rw (length-drop i j) k)
-
--- a figure's end does not change its length
 pub figure-length : (x end : ℕ) → length (figure x end) ≡ length (figure x 0)
 unfolding figure
 figure-length x end = go (eqb x 255)
@@ -61,3 +30,27 @@ line-length a b c d =
     let third = figure c space ++ figure d newline in
     rw (length-append (figure a space) second, length-append (figure b space) third, length-append (figure c space) (figure d newline))
     (omega (arith, figure-length a space, figure-length b space, figure-length c space, figure-length d newline))
+
+chunked : (k : ℕ) (j : List ℕ) → k ≡ length j / 4 → lines j ≡ flat_map entry_line (first_chunks 4 k j)
+unfolding lines
+chunked zero [] e = refl
+chunked zero (a ∷ []) e = refl
+chunked zero (a ∷ b ∷ []) e = refl
+chunked zero (a ∷ b ∷ c ∷ []) e = refl
+chunked zero (a ∷ b ∷ c ∷ d ∷ j) e = absurd (omega (arith, e))
+chunked (suc k) [] e = absurd (omega (arith, e))
+chunked (suc k) (a ∷ []) e = absurd (omega (arith, e))
+chunked (suc k) (a ∷ b ∷ []) e = absurd (omega (arith, e))
+chunked (suc k) (a ∷ b ∷ c ∷ []) e = absurd (omega (arith, e))
+chunked (suc k) (a ∷ b ∷ c ∷ d ∷ j) e = ap (λ (ls : List ℕ). line a b c d ++ ls) (chunked k j (omega (arith, e)))
+
+pub lines-entries : (j : List ℕ) {es : List (List ℕ)} → es ≡ first_chunks 4 (length j / 4) j → lines j ≡ flat_map entry_line es
+lines-entries j e = chunked (length j / 4) j refl ∙ ap (flat_map entry_line) (sym e)
+
+pub lines-more : (es : List (List ℕ)) (i : ℕ) → i < length es
+    → flat_map entry_line (take (i + 1) es) ≡ flat_map entry_line (take i es) ++ entry_line (get_or es i [])
+lines-more es i k = ap (flat_map entry_line) (take_more es i [] k) ∙ sym (flat_map_more entry_line [] (take i es) (get_or es i []))
+
+pub lines-all : (j : List ℕ) {es : List (List ℕ)} (i : ℕ) → es ≡ first_chunks 4 (length j / 4) j → length es ≤ i
+    → flat_map entry_line (take i es) ≡ lines j
+lines-all j {es} i e k = rw (take_all i es k) (sym (lines-entries j e))

@@ -1,8 +1,7 @@
 -- What the functions' proofs share.
-pub mod Digits
 pub mod Entries
-pub mod Runs
-pub mod Filled
+pub mod Lent
+pub mod Texts
 pub mod FileRuns
 pub mod Decimal
 pub mod Controls

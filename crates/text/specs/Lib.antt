@@ -1,4 +1,5 @@
 -- What the program prints, byte by byte; Controls has texts written out.
+pub mod Text
 pub mod Lines
 pub mod Lent
 pub mod File

@@ -26,9 +26,9 @@ figure n end = cond (eqb n 255) (45 ∷ end ∷ []) (decimal n ++ end ∷ [])
 unfoldable pub line : ℕ → ℕ → ℕ → ℕ → List ℕ
 line answer stage name sum = figure answer space ++ (figure stage space ++ (figure name space ++ figure sum newline))
 
--- the line of the entry at byte i of a journal
-abbrev pub line_at : List ℕ → ℕ → List ℕ
-line_at journal i = line (get_or journal i 0) (get_or journal (i + 1) 0) (get_or journal (i + 2) 0) (get_or journal (i + 3) 0)
+-- the line of an entry, which is four bytes
+abbrev pub entry_line : List ℕ → List ℕ
+entry_line e = line (get_or e 0 0) (get_or e 1 0) (get_or e 2 0) (get_or e 3 0)
 
 -- a line for each four bytes of a journal (fewer than four left over are no entry)
 unfoldable pub lines : List ℕ → List ℕ

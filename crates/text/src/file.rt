@@ -1,39 +1,39 @@
 // The text of a day file: what the program `pads` prints for it.
-ghost use Rattle.std.specs.Prelude.{◌≡◌, ◌≤◌, length, take};
-ghost use Rattle.day_file.specs.Layout.{file_answer};
-ghost use Rattle.machine.specs.Answer;
-ghost use Rattle.text.specs.File.{file_journal, file_text};
+ghost use Rattle.std.specs.Prelude.{◌≡◌, ◌*◌, ◌%◌, ◌≤◌, true, length, take, IfOk};
+ghost use Rattle.machine.specs.Lists.{events_of, journal};
+ghost use Rattle.machine.specs.Outcome.{as_written};
+ghost use Rattle.machine.specs.Range.{in_range};
+ghost use Rattle.text.specs.File.{file_text};
 ghost use Rattle.text.specs.Lent.{given, lent_after};
+ghost use Rattle.text.specs.Lines.{lines};
 
 use crate::{lines, refusal};
 use day_file::reader;
-use machine::{Written, answer};
+use machine::{Refusal, State};
 use renaming::list;
 
-// Runs an accepted file's events, and answers how many bytes their journal takes.
-fn run_file(file: &[u8], journal: &mut [u8]) -> usize
-    requires { (file_answer file.now ≡ Answer.accepted) × (65536 ≤ length journal.old) }
-    ensures journal_after { take result journal.new ≡ file_journal file.now }
-    ensures upper_bound { (result ≤ length journal.new) × (result ≡ length (take result journal.new)) }
+// Runs events, and puts the lines of their journal.
+fn events_text(state: &mut State, events: &[u8], out: &mut [u8]) -> Result<usize, Refusal>
+    requires even { length events.now % 2 ≡ 0 }
+    requires few { 2 * length events.now ≤ 65536 }
+    requires in_range { in_range state.old ≡ true }
+    ensures value { as_written result ≡ given (lines (journal state.old (events_of events.now))) out.old }
+    ensures buffer { out.new ≡ lent_after (lines (journal state.old (events_of events.now))) out.old }
 {
-    let setup = reader::read_setup(file);
-    let events = reader::read_events(file);
-    list::run(setup.state, events, &mut *journal);
-    2 * events.len()
+    let mut journal = [0; 65536];
+    list::run(state, events, &mut journal)?;
+    lines::journal_text(&journal[..2 * events.len()], out)
 }
 
 // A line for each event, or `refused n` for a file that is refused; 13 when the buffer is shorter than the text. The last line of the
-// contract follows from the first, and lets a caller take the text as a part of the buffer.
-pub fn file_text(file: &[u8], out: &mut [u8]) -> Written
-    ensures value { (result ≡ given (file_text file.now) out.old)
-        × (out.new ≡ lent_after (file_text file.now) out.old) }
-    ensures size_in_bounds { (result.size ≤ length out.new) × (result.size ≡ length (take result.size out.new)) }
+// contract follows from the others, and lets a caller take the text as a part of the buffer.
+pub fn file_text(file: &[u8], out: &mut [u8]) -> Result<usize, Refusal>
+    ensures value { as_written result ≡ given (file_text file.now) out.old }
+    ensures buffer { out.new ≡ lent_after (file_text file.now) out.old }
+    ensures size_in_bounds { IfOk result (λ size. (size ≤ length out.new) × (size ≡ length (take size out.new))) }
 {
-    let a = reader::file_answer(file);
-    if a != answer::ACCEPTED {
-        return refusal::refused_text(a, &mut *out);
+    match reader::read_setup(file) {
+        Ok(mut state) => events_text(&mut state, reader::read_events(file), out),
+        Err(why) => refusal::refused_text(why, out),
     }
-    let mut journal = [0u8; 65536];
-    let n = run_file(file, &mut journal);
-    lines::journal_text(&journal[..n], &mut *out)
 }

@@ -14,12 +14,20 @@ use Rattle.machine.specs.declared.Setup.{Setup}
 use Rattle.machine.specs.declared.State.{State}
 use Rattle.machine.proofs.Facts.Checks.{read_of, passed_with, accepted_with, refused_with}
 use Rattle.machine.proofs.Laws.Setup.{setup-answers, setup-accepted}
-use Rattle.whole_list.specs.Calls.{Made, by_setup, by_closed_setup}
+use Rattle.whole_list.specs.Calls.{Made, by_setup, by_closed_setup, ListCall}
 
 -- each setup's contract gives the machine's
 made_is : {c : Setup} {d : Done} → Made c d → d ≡ setup c
-made_is (by_setup n l g b d m) = m
-made_is (by_closed_setup κs n l g b closed closed' d m) = m
+made_is (by_setup n l g b d m) = m.gave ∙ m.learnt
+made_is (by_closed_setup κs n l g b closed closed' d m) = m.gave ∙ m.learnt
+
+-- and that of a list gives the machine's run
+module _ {s : State} {d : Done} (c : ListCall s d) where
+  pub list_is : d ≡ run s c.bytes.now c.journal.now
+  list_is = c.gave ∙ c.learnt.0 ∙ ap (λ (x : State). run x c.bytes.now c.journal.now) c.lent
+
+  pub list_writes : c.journal'.now ≡ run_journal s c.bytes.now c.journal.now
+  list_writes = c.learnt.1 ∙ ap (λ (x : State). run_journal x c.bytes.now c.journal.now) c.lent
 
 module _ (c : Setup) (d₀ : Done) (made : Made c d₀) (accepted : d₀.answer ≡ 0) where
   pub passed : setup_answer c ≡ 0

@@ -2,31 +2,33 @@
 -- on the chain. Chains join. Assumes nothing.
 use mathlib.Core.List.{List, ◌∷◌, ◌++◌, append_assoc}
 use Rattle.machine.proofs.Rules.{◌≡◌, ◌∙◌, sym, ap, subst, refl, ◌≢◌}
+use Rattle.machine.specs.Event.{event}
+use Rattle.machine.specs.Kind.{request, step, release}
 use Rattle.machine.specs.Lists.{Event, event_done, after}
 use Rattle.machine.specs.declared.Done.{Done}
 use Rattle.machine.specs.declared.State.{State}
 use Rattle.machine.proofs.Laws.Parts.{after_parts}
 use Rattle.whole_list.specs.Calls.{Called, by_event, by_request, by_step, by_release}
 use Rattle.whole_list.specs.Calls.{ListCall, listed, results_of, Calls, none, call, list, refused_list}
-use Rattle.whole_list.proofs.Accepted.{run_state, run_kept}
+use Rattle.whole_list.proofs.Accepted.{list_is, run_state, run_kept}
 use Rattle.whole_list.proofs.Results.{results_parts}
 
 called_is : {s : State} {e : Event} {d : Done} → Called s e d → d ≡ event_done s e
-called_is (by_event kind p d l) = l
-called_is (by_request p d l) = l
-called_is (by_step p d l) = l
-called_is (by_release p d l) = l
+called_is (by_event kind p d c) = c.gave ∙ c.learnt ∙ ap (λ (x : State). event x kind p) c.lent
+called_is (by_request p d c) = c.gave ∙ c.learnt ∙ ap (λ (x : State). event x request p) c.lent
+called_is (by_step p d c) = c.gave ∙ c.learnt ∙ ap (λ (x : State). event x step p) c.lent
+called_is (by_release p d c) = c.gave ∙ c.learnt ∙ ap (λ (x : State). event x release p) c.lent
 
 module _ {s : State} {d : Done} (c : ListCall s d) where
   pub list_state : d.answer ≡ 0 → d.state ≡ after s (listed c)
   list_state accepted =
-      let is = c.ran.0 in
+      let is = list_is c in
       ap (λ (x : Done). x.state) is
       ∙ run_state s c.bytes.now c.journal.now (sym (ap (λ (x : Done). x.answer) is) ∙ accepted)
 
   pub list_kept : d.answer ≢ 0 → d.state ≡ s
   list_kept refused =
-      let is = c.ran.0 in
+      let is = list_is c in
       ap (λ (x : Done). x.state) is
       ∙ run_kept s c.bytes.now c.journal.now (λ e. refused (ap (λ (x : Done). x.answer) is ∙ e))
 

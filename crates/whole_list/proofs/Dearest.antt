@@ -11,7 +11,7 @@ use Rattle.machine.proofs.Rules.{◌≡◌, ◌≢◌, ◌∙◌, sym, ap, refl,
 use Rattle.machine.specs.Answer.{small_buffer}
 use Rattle.machine.specs.Lists.{Event, list_bytes, after}
 use Rattle.machine.specs.Setup.{plain, setup_answer}
-use Rattle.machine.specs.State.{done, fresh, process_at}
+use Rattle.machine.specs.State.{done, fresh, process_at, setup}
 use Rattle.machine.specs.declared.DearestList.{DearestList}
 use Rattle.machine.specs.declared.Done.{Done}
 use Rattle.machine.specs.declared.Setup.{Setup}
@@ -20,13 +20,13 @@ use Rattle.machine.proofs.Laws.Fresh.{fresh_in_range}
 use Rattle.machine.proofs.Laws.Parts.{bytes_events, bytes_length}
 use Rattle.machine.proofs.Laws.Setup.{setup-answers, setup-accepted}
 use Rattle.renaming_claim.specs.Claim.{after_list}
-use Rattle.dearest_claim.specs.Dearest.{dearest_figure, dear, dearest_events, dearest_bytes, dearest_answer, dearest_of}
+use Rattle.dearest_claim.specs.Dearest.{dearest_figure, dear, dearest_events, dearest_bytes, dearest_answer, dearest_of, dearest_list}
 use Rattle.dearest_claim.specs.Theorem as spec
 use Rattle.dearest_claim.proofs.Call.{answer_setup, answer_buffer, passed_setup, list_answer, refused_list, accepted_list}
 use Rattle.dearest_claim.proofs.Theorem as machine
 use Rattle.whole_list.specs.Calls.{SetUp, ListCall, Calls}
 use Rattle.whole_list.specs.Dearest.{Wrote, Holder, Produced, EveryDearestList}
-use Rattle.whole_list.proofs.Accepted.{run_carried_out}
+use Rattle.whole_list.proofs.Accepted.{list_is, run_carried_out}
 use Rattle.whole_list.proofs.Chain.{end_is}
 
 module _ (κs : Lfts 1) (n leaves g b : ℕ) (d : Done) (out out' : MutBor (List ℕ)) (l : DearestList) (set : SetUp n leaves g b d)
@@ -40,11 +40,17 @@ module _ (κs : Lfts 1) (n leaves g b : ℕ) (d : Done) (out out' : MutBor (List
   abbrev room : ℕ
   room = length lent
 
+  listed : l ≡ dearest_list c lent
+  listed = wrote.gave ∙ wrote.learnt.0
+
+  set_is : d ≡ setup c
+  set_is = set.gave ∙ set.learnt
+
   setup_is : d.answer ≡ setup_answer c
-  setup_is = ap (λ (x : Done). x.answer) set ∙ setup-answers c
+  setup_is = ap (λ (x : Done). x.answer) set_is ∙ setup-answers c
 
   answer_is : l.answer ≡ dearest_answer c room
-  answer_is = ap (λ (x : DearestList). x.answer) wrote.0 ∙ list_answer c lent
+  answer_is = ap (λ (x : DearestList). x.answer) listed ∙ list_answer c lent
 
   -- the setup is refused, or the buffer is small
   by_setup : d.answer ≢ 0 → dearest_answer c room ≡ d.answer
@@ -56,7 +62,7 @@ module _ (κs : Lfts 1) (n leaves g b : ℕ) (d : Done) (out out' : MutBor (List
   refused : {n : ℕ} → dearest_answer c room ≡ n → n ≢ 0 → (l ≡ dearest_of n 0 0) × (out'.now ≡ out.now)
   refused e z =
       let gave = refused_list c lent (λ i. z (sym e ∙ i)) in
-      (wrote.0 ∙ sym gave.0 ∙ ap (λ (n : ℕ). dearest_of n 0 0) e, wrote.1 ∙ sym gave.1)
+      (listed ∙ sym gave.0 ∙ ap (λ (n : ℕ). dearest_of n 0 0) e, wrote.learnt.1 ∙ sym gave.1)
 
   -- the call is accepted
   module _ (a : l.answer ≡ 0) where
@@ -64,10 +70,10 @@ module _ (κs : Lfts 1) (n leaves g b : ℕ) (d : Done) (out out' : MutBor (List
     passes = passed_setup c room (sym answer_is ∙ a)
 
     start : d.state ≡ fresh c
-    start = ap (λ (x : Done). x.state) (set ∙ setup-accepted c passes)
+    start = ap (λ (x : Done). x.state) (set_is ∙ setup-accepted c passes)
 
     made : l ≡ dearest_of 0 (dearest_figure c) (length (dearest_bytes c))
-    made = wrote.0 ∙ sym (accepted_list c lent (sym answer_is ∙ a)).0
+    made = listed ∙ sym (accepted_list c lent (sym answer_is ∙ a)).0
 
     figure_is : l.figure ≡ dearest_figure c
     figure_is = ap (λ (x : DearestList). x.figure) made
@@ -76,7 +82,7 @@ module _ (κs : Lfts 1) (n leaves g b : ℕ) (d : Done) (out out' : MutBor (List
     size_is = ap (λ (x : DearestList). x.size) made
 
     stored : out'.now ≡ dearest_bytes c ++ drop (length (dearest_bytes c)) lent
-    stored = wrote.1 ∙ sym (accepted_list c lent (sym answer_is ∙ a)).1
+    stored = wrote.learnt.1 ∙ sym (accepted_list c lent (sym answer_is ∙ a)).1
 
     claimed : spec.Dearest c
     claimed = machine.theorem n leaves g b passes
@@ -92,18 +98,18 @@ module _ (κs : Lfts 1) (n leaves g b : ℕ) (d : Done) (out out' : MutBor (List
         )
 
     -- the bytes that it wrote are the list's
-    list_is : take l.size out'.now ≡ dearest_bytes c
-    list_is = rw (size_is, stored) (take_at (dearest_bytes c) (drop (length (dearest_bytes c)) lent) (length (dearest_bytes c)) refl)
+    bytes_are : take l.size out'.now ≡ dearest_bytes c
+    bytes_are = rw (size_is, stored) (take_at (dearest_bytes c) (drop (length (dearest_bytes c)) lent) (length (dearest_bytes c)) refl)
 
     shows : (r : Done) (run : ListCall d.state r) → run.bytes.now ≡ take l.size out'.now
         → 2 * l.size ≤ length run.journal.now
         → (r.answer ≡ 0) × Holder c r.state l.figure
     shows r run bytes journal =
         let es : List Event = dearest_events c in
-        let list : run.bytes.now ≡ list_bytes es = bytes ∙ list_is in
+        let list : run.bytes.now ≡ list_bytes es = bytes ∙ bytes_are in
         let size : length run.bytes.now ≡ 2 * length es = ap (λ (x : List ℕ). length x) list ∙ bytes_length es in
         let is : r ≡ done 0 (after_list c es)
-        = run.ran.0
+        = list_is run
         ∙ run_carried_out d.state run.bytes.now run.journal.now (omega (arith, size))
         (omega (arith, size, journal, size_is, bytes_length es)) (rw start (fresh_in_range c passes))
         ∙ rw (start, list, bytes_events es) in (

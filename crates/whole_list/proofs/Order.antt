@@ -4,7 +4,7 @@ use Prim.Native.Nat.{ℕ, ◌+◌, ◌-◌, ◌≤◌, ◌<◌}
 use Rattle.machine.proofs.Rules.{◌≡◌, ◌∙◌, sym, ap, refl, true, arith}
 use Rattle.machine.specs.Range.{in_range}
 use Rattle.machine.specs.Setup.{plain, setup_answer}
-use Rattle.machine.specs.State.{counter_at, with_counter, fresh_counter, fresh, partial}
+use Rattle.machine.specs.State.{counter_at, with_counter, fresh_counter, fresh, partial, partial_setup}
 use Rattle.machine.specs.declared.Done.{Done}
 use Rattle.machine.specs.declared.Setup.{Setup}
 use Rattle.machine.specs.declared.State.{State}
@@ -15,18 +15,18 @@ use Rattle.machine.proofs.Laws.Setup.{setup-answers, partial-answers, partial-re
 use Rattle.machine.proofs.Ranges.{limits_of}
 use Rattle.whole_list.specs.Calls.{PartlySetUp, by_setup}
 use Rattle.whole_list.specs.Order.{EveryPartialSetup}
-use Rattle.whole_list.proofs.Accepted.{passed, is_fresh, run_carried_out}
+use Rattle.whole_list.proofs.Accepted.{passed, is_fresh, list_is, run_carried_out}
 
 pub partial_setups : EveryPartialSetup
 partial_setups n l g b count d₀ d set part =
     record {
-      refused = λ r. rw answers (part ∙ partial-refused c count (λ z. r (answers ∙ z)));
-      accepted = λ a. ap (λ (x : Done). x.answer) part ∙ partial-answers c count ∙ pass a;
+      refused = λ r. rw answers (made ∙ partial-refused c count (λ z. r (answers ∙ z)));
+      accepted = λ a. ap (λ (x : Done). x.answer) made ∙ partial-answers c count ∙ pass a;
       filled = λ a v k l. rw (here a, whole_is a) (filled_counter c count (pass a) v k (omega arith));
       others = λ a v k l. rw (here a) (zero_counter c count (pass a) v k (omega arith));
       setup_above_0 = λ a v low k. omega (arith, setup_counter a v low k, above_0 a v low k);
       rest = λ a. rw (here a, whole_is a) (unfold partial fresh in refl);
-      whole = λ k. part ∙ partial_is_setup c count (λ _. k) ∙ sym set;
+      whole = λ k. made ∙ partial_is_setup c count (λ _. k) ∙ sym (set.gave ∙ set.learnt);
       next = λ a k d₁ more.
           let v : ℕ = c.leaves - 1 - count in
           part_is (count + 1) d₁ more a
@@ -42,14 +42,17 @@ partial_setups n l g b count d₀ d set part =
             above_0 a 1 (omega arith) (omega arith),
           );
       within_ranges = ranged;
-      carried_out = λ a r l even room. l.ran.0 ∙ run_carried_out d.state l.bytes.now l.journal.now even room (ranged a);
+      carried_out = λ a r l even room. list_is l ∙ run_carried_out d.state l.bytes.now l.journal.now even room (ranged a);
     }
   where
     c : Setup
     c = plain n l g b
 
+    made : d ≡ partial_setup c count
+    made = part.gave ∙ part.learnt
+
     answers : d₀.answer ≡ setup_answer c
-    answers = ap (λ (x : Done). x.answer) set ∙ setup-answers c
+    answers = ap (λ (x : Done). x.answer) (set.gave ∙ set.learnt) ∙ setup-answers c
 
     pass : d₀.answer ≡ 0 → setup_answer c ≡ 0
     pass = passed c d₀ (by_setup n l g b d₀ set)
@@ -65,7 +68,7 @@ partial_setups n l g b count d₀ d set part =
     above_0 a v low k = let m = limits_of c (pass a) in counter_low c refl m.leaves v low k m.g1 m.b1
 
     part_is : (m : ℕ) (e : Done) → PartlySetUp n l g b m e → d₀.answer ≡ 0 → e.state ≡ partial c m
-    part_is m e is a = ap (λ (x : Done). x.state) (is ∙ partial-accepted c m (pass a))
+    part_is m e is a = ap (λ (x : Done). x.state) (is.gave ∙ is.learnt ∙ partial-accepted c m (pass a))
 
     here : d₀.answer ≡ 0 → d.state ≡ partial c count
     here = part_is count d part

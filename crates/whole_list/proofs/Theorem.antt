@@ -17,7 +17,7 @@ use Rattle.renaming_claim.specs.History.{HoldsWithin}
 use Rattle.renaming_claim.proofs.Theorem as claim
 use Rattle.whole_list.specs.Calls.{Made, ListCall, listed, results_of, Calls, none, list, state_at, entries_of}
 use Rattle.whole_list.specs.Whole.{Whole, own_state, EveryChain, EveryListCall}
-use Rattle.whole_list.proofs.Accepted.{passed, is_fresh, run-written, run_untouched}
+use Rattle.whole_list.proofs.Accepted.{list_is, list_writes, passed, is_fresh, run-written, run_untouched}
 use Rattle.whole_list.proofs.Agrees.{agrees}
 use Rattle.whole_list.proofs.Chain.{results_are, end_is, join, list_state, list_kept}
 use Rattle.whole_list.proofs.Results.{results_answers, results_states, results_entries, results_own}
@@ -103,14 +103,14 @@ list_call s d c =
     record {
       state = λ accepted ds t calls. list_state c accepted ∙ sym (end_is calls);
       entries = λ accepted ds t calls.
-          c.ran.1
+          list_writes c
           ∙ run-written s c.bytes.now c.journal.now (sym same_answer ∙ accepted)
           ∙ ap (λ (j : List ℕ). j ++ drop (journal_length c.bytes.now) c.journal.now)
           (sym (ap (entries_of (listed c)) (results_are calls) ∙ results_entries s (listed c)));
       kept = list_kept c;
       untouched = λ refused.
-          c.ran.1 ∙ run_untouched s c.bytes.now c.journal.now (λ e. refused (same_answer ∙ e));
+          list_writes c ∙ run_untouched s c.bytes.now c.journal.now (λ e. refused (same_answer ∙ e));
     }
   where
     same_answer : d.answer ≡ (run s c.bytes.now c.journal.now).answer
-    same_answer = ap (λ (x : Done). x.answer) c.ran.0
+    same_answer = ap (λ (x : Done). x.answer) (list_is c)

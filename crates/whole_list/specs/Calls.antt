@@ -1,16 +1,20 @@
 -- Chains of calls. A call is known by what its own contract lets a caller learn (the generated Reads), and by nothing else; each
 -- call of a chain is lent the state that the call before it gave, refused or not. Only the states between the events of a list, which
 -- no call gives, are named by the machine's events.
-use Rattle.std.specs.Prelude.{◌≡◌, ◌≢◌, List, [], ◌∷◌, ◌++◌, ℕ, zero, suc}
+use Rattle.std.specs.Prelude.{◌≡◌, ◌≢◌, List, [], ◌∷◌, ◌++◌, ℕ, zero, suc, Result}
 use contract.Lifetimes.{Lfts}
 use Rattle.std.specs.Borrow.{Bor, MutBor}
 use Rattle.machine.specs.Kind.{request, step, release}
 use Rattle.machine.specs.Lists.{Event, event_of, event_done, events_of, entry_bytes}
+use Rattle.machine.specs.Outcome.{as_done}
+use Rattle.machine.specs.Refusal.{answered}
 use Rattle.machine.specs.Setup.{given, plain}
-use Rattle.machine.specs.State.{process_at}
+use Rattle.machine.specs.State.{done, blank, process_at}
 use Rattle.machine.specs.declared.Done.{Done}
 use Rattle.machine.specs.declared.Setup.{Setup}
 use Rattle.machine.specs.declared.State.{State}
+use Rattle.machine.specs.declared.numbers.Numbers.{Numbers}
+use Rattle.machine.specs.declared.refusal.Refusal.{Refusal}
 use Rattle.renaming.proofs.setup.setup.Reads as setup-reads
 use Rattle.renaming.proofs.setup.partial_setup.Reads as partial-setup-reads
 use Rattle.renaming.proofs.setup.closed_setup.Reads as closed-setup-reads
@@ -20,45 +24,74 @@ use Rattle.renaming.proofs.event.step.Reads as step-reads
 use Rattle.renaming.proofs.event.release.Reads as release-reads
 use Rattle.renaming.proofs.list.run.Reads as run-reads
 
--- `setup(n, l, g, b)` gave d
-abbrev pub SetUp : ℕ → ℕ → ℕ → ℕ → Done → Type 0
-SetUp n l g b d = setup-reads.Learnt tt (n, (l, (g, (b, tt)))) d (n, (l, (g, (b, tt))))
+-- the four numbers of a setup, as a call takes them
+abbrev pub four : ℕ → ℕ → ℕ → ℕ → Numbers
+four n l g b = record { processes = n; leaves = l; segments = g; bits = b }
 
--- `partial_setup(n, l, g, b, count)` gave d
-abbrev pub PartlySetUp : ℕ → ℕ → ℕ → ℕ → ℕ → Done → Type 0
-PartlySetUp n l g b count d = partial-setup-reads.Learnt tt (n, (l, (g, (b, (count, tt))))) d (n, (l, (g, (b, (count, tt)))))
+-- `setup(numbers)` gave d: its result, with the blank state for a refused one
+pub record SetUp (n l g b : ℕ) (d : Done) : Type 0 where
+  pub result : Result State Refusal
+  pub learnt : setup-reads.Learnt tt (four n l g b, tt) result (four n l g b, tt)
+  pub gave : d ≡ as_done blank result
 
--- `closed_setup(n, l, g, b, closed)` gave d and left closed'
-abbrev pub ClosedSetUp : Lfts 1 → ℕ → ℕ → ℕ → ℕ → Bor (List ℕ) → Done → Bor (List ℕ) → Type 0
-ClosedSetUp κs n l g b closed d closed' =
-    closed-setup-reads.Learnt κs (n, (l, (g, (b, (closed, tt))))) d (n, (l, (g, (b, (closed', tt)))))
+-- `partial_setup(numbers, count)` gave d
+pub record PartlySetUp (n l g b count : ℕ) (d : Done) : Type 0 where
+  pub result : Result State Refusal
+  pub learnt : partial-setup-reads.Learnt tt (four n l g b, (count, tt)) result (four n l g b, (count, tt))
+  pub gave : d ≡ as_done blank result
 
--- a setup of the four numbers, or of these and a list of closed names, gave d: `setup(n, l, g, b)`, which closes none, or
--- `closed_setup(n, l, g, b, closed)`
+-- `closed_setup(numbers, closed)` gave d and left closed'
+pub record ClosedSetUp (κs : Lfts 1) (n l g b : ℕ) (closed : Bor (List ℕ)) (d : Done) (closed' : Bor (List ℕ)) : Type 0 where
+  pub result : Result State Refusal
+  pub learnt : closed-setup-reads.Learnt κs (four n l g b, (closed, tt)) result (four n l g b, (closed', tt))
+  pub gave : d ≡ as_done blank result
+
+-- a setup of the four numbers, or of these and a list of closed names, gave d: `setup(numbers)`, which closes none, or
+-- `closed_setup(numbers, closed)`
 pub data Made : Setup → Done → Type 0 where
   by_setup : (n l g b : ℕ) (d : Done) → SetUp n l g b d → Made (plain n l g b) d
   by_closed_setup : (κs : Lfts 1) (n l g b : ℕ) (closed closed' : Bor (List ℕ)) (d : Done) → ClosedSetUp κs n l g b closed d closed'
       → Made (given n l g b closed.now) d
 
+-- What a contract lets a caller learn of one event call: the reference to the state before it, its result, and the reference after it.
+abbrev pub LearntOf : Type 1
+LearntOf = Lfts 1 → MutBor State → Result (Unit {0}) Refusal → MutBor State → Type 0
+
+-- such a call was lent s, and d is what it answered with the state that it left
+pub record Changed (learnt_of : LearntOf) (s : State) (d : Done) : Type 0 where
+  pub lifetimes : Lfts 1
+  pub state : MutBor State
+  pub state' : MutBor State
+  pub result : Result (Unit {0}) Refusal
+  pub lent : state.now ≡ s
+  pub learnt : learnt_of lifetimes state result state'
+  pub gave : d ≡ done (answered result) state'.now
+
 -- a call lent s and given the event gave d: `event(s, kind, p)`, or `request(s, p)`, `step(s, p)` or `release(s, p)`
 pub data Called (s : State) : Event → Done → Type 0 where
-  by_event : (kind p : ℕ) (d : Done) → event-reads.Learnt tt (s, (kind, (p, tt))) d (s, (kind, (p, tt))) → Called s (event_of kind p) d
-  by_request : (p : ℕ) (d : Done) → request-reads.Learnt tt (s, (p, tt)) d (s, (p, tt)) → Called s (event_of request p) d
-  by_step : (p : ℕ) (d : Done) → step-reads.Learnt tt (s, (p, tt)) d (s, (p, tt)) → Called s (event_of step p) d
-  by_release : (p : ℕ) (d : Done) → release-reads.Learnt tt (s, (p, tt)) d (s, (p, tt)) → Called s (event_of release p) d
+  by_event : (kind p : ℕ) (d : Done)
+      → Changed (λ κs a r b. event-reads.Learnt κs (a, (kind, (p, tt))) r (b, (kind, (p, tt)))) s d → Called s (event_of kind p) d
+  by_request : (p : ℕ) (d : Done)
+      → Changed (λ κs a r b. request-reads.Learnt κs (a, (p, tt)) r (b, (p, tt))) s d → Called s (event_of request p) d
+  by_step : (p : ℕ) (d : Done)
+      → Changed (λ κs a r b. step-reads.Learnt κs (a, (p, tt)) r (b, (p, tt))) s d → Called s (event_of step p) d
+  by_release : (p : ℕ) (d : Done)
+      → Changed (λ κs a r b. release-reads.Learnt κs (a, (p, tt)) r (b, (p, tt))) s d → Called s (event_of release p) d
 
--- `run(s, bytes, journal)` gave d and left bytes' and journal'
-abbrev pub Ran : Lfts 2 → State → Bor (List ℕ) → MutBor (List ℕ) → Done → Bor (List ℕ) → MutBor (List ℕ) → Type 0
-Ran κs s bytes journal d bytes' journal' = run-reads.Learnt κs (s, (bytes, (journal, tt))) d (s, (bytes', (journal', tt)))
-
--- one call of a list: the references that it was lent, and what it gave
+-- `run(s, bytes, journal)`: the references that it was lent, its result, and the references after it; d is what it answered with the state
+-- that it left
 pub record ListCall (s : State) (d : Done) : Type 0 where
-  pub lifetimes : Lfts 2
+  pub lifetimes : Lfts 3
+  pub state : MutBor State
+  pub state' : MutBor State
   pub bytes : Bor (List ℕ)
   pub bytes' : Bor (List ℕ)
   pub journal : MutBor (List ℕ)
   pub journal' : MutBor (List ℕ)
-  pub ran : Ran lifetimes s bytes journal d bytes' journal'
+  pub result : Result (Unit {0}) Refusal
+  pub lent : state.now ≡ s
+  pub learnt : run-reads.Learnt lifetimes (state, (bytes, (journal, tt))) result (state', (bytes', (journal', tt)))
+  pub gave : d ≡ done (answered result) state'.now
 
 -- the events of its list
 abbrev pub listed : {s : State} {d : Done} → ListCall s d → List Event

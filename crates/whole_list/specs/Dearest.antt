@@ -1,10 +1,11 @@
 -- Document 02, d), said of the calls: the list that the call wrote, run by `run` from the state that `setup` gave. Both are given four
 -- numbers, which close none: "the ticket on the dearest claim is about setups that close none" (document 02, e).
-use Rattle.std.specs.Prelude.{◌≡◌, ◌≢◌, List, ℕ, ◌*◌, ◌≤◌, ◌<◌, length, take, drop}
+use Rattle.std.specs.Prelude.{◌≡◌, ◌≢◌, List, ℕ, ◌*◌, ◌≤◌, ◌<◌, length, take, drop, Result}
 use contract.Lifetimes.{Lfts}
 use Rattle.std.specs.Borrow.{MutBor}
 use Rattle.machine.specs.Answer.{small_buffer}
 use Rattle.machine.specs.Lists.{Event}
+use Rattle.machine.specs.Outcome.{as_dearest}
 use Rattle.machine.specs.Setup.{plain}
 use Rattle.machine.specs.Stage.{working}
 use Rattle.machine.specs.State.{process_at}
@@ -12,13 +13,17 @@ use Rattle.machine.specs.declared.DearestList.{DearestList}
 use Rattle.machine.specs.declared.Done.{Done}
 use Rattle.machine.specs.declared.Setup.{Setup}
 use Rattle.machine.specs.declared.State.{State}
+use Rattle.machine.specs.declared.outcome.Dearest.{Dearest}
+use Rattle.machine.specs.declared.refusal.Refusal.{Refusal}
 use Rattle.dearest_claim.specs.Dearest.{dearest_of, dearest_figure}
 use Rattle.dearest.proofs.dearest_list.Reads as dearest-list-reads
-use Rattle.whole_list.specs.Calls.{SetUp, ListCall, Calls}
+use Rattle.whole_list.specs.Calls.{SetUp, ListCall, Calls, four}
 
--- `dearest_list(n, l, g, b, out)` gave r and left out'
-abbrev pub Wrote : Lfts 1 → ℕ → ℕ → ℕ → ℕ → MutBor (List ℕ) → DearestList → MutBor (List ℕ) → Type 0
-Wrote κs n l g b out r out' = dearest-list-reads.Learnt κs (n, (l, (g, (b, (out, tt))))) r (n, (l, (g, (b, (out', tt)))))
+-- `dearest_list(numbers, out)` gave r, the figures 0 for a refused one, and left out'
+pub record Wrote (κs : Lfts 1) (n l g b : ℕ) (out : MutBor (List ℕ)) (r : DearestList) (out' : MutBor (List ℕ)) : Type 0 where
+  pub result : Result Dearest Refusal
+  pub learnt : dearest-list-reads.Learnt κs (four n l g b, (out, tt)) result (four n l g b, (out', tt))
+  pub gave : r ≡ as_dearest result
 
 -- a process that holds a name in the state s, with exactly this claim figure
 pub record Holder (c : Setup) (s : State) (figure : ℕ) : Type 0 where

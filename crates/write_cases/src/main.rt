@@ -5,66 +5,27 @@
 #![tactic(auto)]
 
 use cases::{image, input, line};
-use day_file::layout;
+use machine::Written;
 
-fn print_numbers(answer: u8, size: usize, figure: u64) -> bool {
-    let mut text = [0u8; 64];
-    let numbers = [input::number(answer), size as u64, figure];
-    let n = line::put_line(&mut text, b"write", &numbers);
-    io::write_all(1, &text[..n])
-}
-
-// Reads a call, makes it with these bytes for its list and its buffer, and prints its line. False where the input ends, within a record
-// too, and where more is asked than there is.
-fn make_call(events: &mut [u8], out: &mut [u8]) -> bool {
-    let mut head = [0u8; 16];
-    if io::read_full(0, &mut head) < 16 {
-        return false;
-    }
-    let size = layout::word(&head, 4) as usize;
-    let given = layout::word(&head, 8) as usize;
-    let room = layout::word(&head, 12) as usize;
-    if size > events.len() {
-        return false;
-    }
-    if given > size {
-        return false;
-    }
-    if room > out.len() {
-        return false;
-    }
-    if io::read_full(0, &mut events[0..given]) < given {
-        return false;
-    }
-    let written = day_writer::write_file(
-        head[0],
-        head[1],
-        head[2],
-        head[3],
-        &events[0..size],
-        &mut out[0..room],
-    );
-    print_numbers(
-        written.answer,
-        written.size,
-        image::digest_bytes(&out[0..room]),
+// Reads a call, makes it and prints its line. None where the input ends, within a record too, and where more is asked than there is.
+fn next() -> Option<()> {
+    let numbers = input::read_numbers()?;
+    let size = input::read_size()?;
+    let given = input::read_size()?;
+    let room = input::read_size()?;
+    let mut events = [0; 262144];
+    let events = events.get_mut(..size)?;
+    input::fill(events.get_mut(..given)?)?;
+    let mut out = [170; 65536];
+    let out = out.get_mut(..room)?;
+    let written = Written::from(day_writer::write_file(numbers, events, out));
+    let figure = image::digest_bytes(out);
+    line::print_line(
+        b"write",
+        &[written.answer.into(), written.size as u64, figure.into()],
     )
 }
 
-fn next() -> bool {
-    let mut events = [0u8; 262144];
-    let mut out = [170u8; 65536];
-    make_call(&mut events, &mut out)
-}
-
-// A proved loop has to end, and nothing says that the input does. So the loop counts its turns down, from a number that no run uses
-// up.
 fn main() {
-    let mut turns = u64::MAX;
-    while turns > 0 {
-        if !next() {
-            return;
-        }
-        turns -= 1;
-    }
+    input::repeat(|_| next());
 }

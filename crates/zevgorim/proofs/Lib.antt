@@ -1,3 +1,2 @@
--- What the exports' proofs share: C's numbers as bytes, and parts of a file.
+-- What the exports' proofs share: C's numbers as bytes.
 pub mod Narrowed
-pub mod Events

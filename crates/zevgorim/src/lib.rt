@@ -1,4 +1,5 @@
-// The calls for C, behind a prefix. A slice is a pointer and its length.
+// The calls for C, behind a prefix. A slice is a pointer and its length. C has no Result, so that here alone an answer is a number, beside
+// what the call gave; and C gives the four numbers of a setup one by one.
 #![tactic(auto)]
 
 pub mod files;

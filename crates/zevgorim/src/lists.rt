@@ -3,10 +3,11 @@ ghost use Rattle.std.specs.Prelude.{◌≡◌};
 ghost use Rattle.machine.specs.Setup.{plain};
 ghost use Rattle.dearest_claim.specs.Dearest.{dearest_list, dearest_buffer};
 
-use crate::narrow;
+use crate::narrow::numbers;
 use machine::DearestList;
 
 #[unsafe(no_mangle)]
+#[tactic(auto, using(crate::proofs::Narrowed::dearest_list_narrowed))]
 pub extern "C" fn zevgorim_dearest_list(
     n: u32,
     l: u32,
@@ -14,9 +15,8 @@ pub extern "C" fn zevgorim_dearest_list(
     b: u32,
     out: &mut [u8],
 ) -> DearestList
-    ensures { (result ≡ dearest_list (plain n l g b) out.old)
-        × (out.new ≡ dearest_buffer (plain n l g b) out.old) }
+    ensures list { result ≡ dearest_list (plain n l g b) out.old }
+    ensures buffer { out.new ≡ dearest_buffer (plain n l g b) out.old }
 {
-    let four = narrow::setup_of(n, l, g, b);
-    dearest::dearest_list(four.processes, four.leaves, four.segments, four.bits, out)
+    dearest::dearest_list(numbers(n, l, g, b), out).into()
 }

@@ -1,24 +1,25 @@
 // C's 32-bit numbers, for calls that take bytes.
 ghost use Rattle.std.specs.Prelude.{◌≡◌};
-ghost use Rattle.machine.specs.Setup.{plain};
-ghost use Rattle.zevgorim.specs.Narrow.{narrow};
+ghost use Rattle.zevgorim.specs.Narrow.{narrow, numbers_of};
 
-use fresh::limits;
-use machine::Setup;
+use machine::Numbers;
 
 // 255 stands for every larger number: as a number of a setup, as a kind and as a process it is refused as they are.
+#[tactic(auto, unfolding(crate::specs::Narrow::narrow))]
 pub(crate) fn narrowed(x: u32) -> u8
     ensures { result ≡ narrow x }
 {
-    if x > 255 {
-        return 255;
-    }
-    x as u8
+    u8::try_from(x).unwrap_or(255)
 }
 
-// The setup of four numbers, which closes none.
-pub(crate) fn setup_of(n: u32, l: u32, g: u32, b: u32) -> Setup
-    ensures { result ≡ plain (narrow n) (narrow l) (narrow g) (narrow b) }
+// The four numbers of a setup.
+pub(crate) fn numbers(n: u32, l: u32, g: u32, b: u32) -> Numbers
+    ensures { result ≡ numbers_of n l g b }
 {
-    limits::setup_of(narrowed(n), narrowed(l), narrowed(g), narrowed(b), 0)
+    Numbers {
+        processes: narrowed(n),
+        leaves: narrowed(l),
+        segments: narrowed(g),
+        bits: narrowed(b),
+    }
 }

@@ -2,86 +2,99 @@
 // large, and a count comes in 64: none is cut.
 ghost use Rattle.std.specs.Prelude.{◌≡◌};
 ghost use Rattle.machine.specs.Event;
-ghost use Rattle.machine.specs.Kind;
+ghost use Rattle.machine.specs.Kind.{request as Kind·request, step as Kind·step, release as Kind·release};
 ghost use Rattle.machine.specs.Lists;
 ghost use Rattle.machine.specs.Reports;
 ghost use Rattle.machine.specs.Setup.{given, plain};
 ghost use Rattle.machine.specs.State.{setup as State·setup, partial_setup};
 
-use crate::narrow;
-use machine::{Done, Report, State, kind};
+use crate::narrow::{narrowed, numbers};
+use fresh::state::blank_state;
+use machine::refusal::answered;
+use machine::{Done, Kind, Report, State};
 use renaming::{event, list, report, setup};
 
 #[unsafe(no_mangle)]
+#[tactic(auto, using(crate::proofs::Narrowed::setup_narrowed))]
 pub extern "C" fn zevgorim_setup(n: u32, l: u32, g: u32, b: u32) -> Done
     ensures { result ≡ State·setup (plain n l g b) }
 {
-    let four = narrow::setup_of(n, l, g, b);
-    setup::setup(four.processes, four.leaves, four.segments, four.bits)
+    Done::given(setup::setup(numbers(n, l, g, b)), blank_state())
 }
 
 #[unsafe(no_mangle)]
+#[tactic(auto, using(crate::proofs::Narrowed::partial_narrowed))]
 pub extern "C" fn zevgorim_partial_setup(n: u32, l: u32, g: u32, b: u32, count: u64) -> Done
     ensures { result ≡ partial_setup (plain n l g b) count }
 {
-    let four = narrow::setup_of(n, l, g, b);
-    setup::partial_setup(four.processes, four.leaves, four.segments, four.bits, count)
+    Done::given(
+        setup::partial_setup(numbers(n, l, g, b), count),
+        blank_state(),
+    )
 }
 
 // The closed names are bytes already.
 #[unsafe(no_mangle)]
+#[tactic(auto, using(crate::proofs::Narrowed::setup_narrowed))]
 pub extern "C" fn zevgorim_closed_setup(n: u32, l: u32, g: u32, b: u32, closed: &[u8]) -> Done
     ensures { result ≡ State·setup (given n l g b closed.now) }
 {
-    let four = narrow::setup_of(n, l, g, b);
-    setup::closed_setup(
-        four.processes,
-        four.leaves,
-        four.segments,
-        four.bits,
-        closed,
+    Done::given(
+        setup::closed_setup(numbers(n, l, g, b), closed),
+        blank_state(),
     )
 }
 
 #[unsafe(no_mangle)]
+#[tactic(auto, using(crate::proofs::Narrowed::event_narrowed))]
 pub extern "C" fn zevgorim_event(state: State, kind: u32, process: u32) -> Done
     ensures { result ≡ Event.event state kind process }
 {
-    event::event(state, narrow::narrowed(kind), narrow::narrowed(process))
+    let mut after = state;
+    let result = event::event(&mut after, narrowed(kind), narrowed(process));
+    Done {
+        state: after,
+        answer: answered(&result),
+    }
 }
 
 #[unsafe(no_mangle)]
 pub extern "C" fn zevgorim_request(state: State, process: u32) -> Done
-    ensures { result ≡ Event.event state Kind.request process }
+    ensures { result ≡ Event.event state Kind·request process }
 {
-    zevgorim_event(state, kind::REQUEST as u32, process)
+    zevgorim_event(state, Kind::Request as u32, process)
 }
 
 #[unsafe(no_mangle)]
 pub extern "C" fn zevgorim_step(state: State, process: u32) -> Done
-    ensures { result ≡ Event.event state Kind.step process }
+    ensures { result ≡ Event.event state Kind·step process }
 {
-    zevgorim_event(state, kind::STEP as u32, process)
+    zevgorim_event(state, Kind::Step as u32, process)
 }
 
 #[unsafe(no_mangle)]
 pub extern "C" fn zevgorim_release(state: State, process: u32) -> Done
-    ensures { result ≡ Event.event state Kind.release process }
+    ensures { result ≡ Event.event state Kind·release process }
 {
-    zevgorim_event(state, kind::RELEASE as u32, process)
+    zevgorim_event(state, Kind::Release as u32, process)
 }
 
 #[unsafe(no_mangle)]
 pub extern "C" fn zevgorim_run(state: State, events: &[u8], journal: &mut [u8]) -> Done
-    ensures { (result ≡ Lists.run state events.now journal.old)
-        × (journal.new ≡ Lists.run_journal state events.now journal.old) }
+    ensures done { result ≡ Lists.run state events.now journal.old }
+    ensures journal { journal.new ≡ Lists.run_journal state events.now journal.old }
 {
-    list::run(state, events, journal)
+    let mut after = state;
+    let result = list::run(&mut after, events, journal);
+    Done {
+        state: after,
+        answer: answered(&result),
+    }
 }
 
 #[unsafe(no_mangle)]
 pub extern "C" fn zevgorim_gate_report(state: State) -> Report
     ensures { result ≡ Reports.gate_report state }
 {
-    report::gate_report(state)
+    report::gate_report(&state).into()
 }

@@ -1,5 +1,0 @@
--- The turns left go down.
-use Rattle.call_cases.proofs.main.Given as goal
-
-abbrev pub decreases-loop-turns : goal.decreases-loop-turns
-decreases-loop-turns l = l.turns
