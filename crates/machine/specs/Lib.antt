@@ -11,6 +11,7 @@ pub mod Setup
 pub mod Stage
 pub mod Kind
 pub mod State
+pub mod Bytes
 pub mod Outcome
 pub mod Range
 pub mod Gate

@@ -1,6 +1,7 @@
 // The records of the machine, document 01's section State. What an event does to them is said in specs/.
 #![tactic(auto)]
 
+pub mod bytes;
 pub mod counts;
 pub mod kind;
 pub mod numbers;
@@ -19,7 +20,7 @@ pub const NO_NAME: u8 = 255;
 // What a setup is given: processes (document 01: handsets) N, leaves L, segments (rows) in a leaf g, bits in a segment b, and which
 // names are closed (document 02, e: closed pads): bit p of `closed` is 1 where name p is.
 #[repr(C)]
-#[derive(Clone, Copy)]
+#[derive(Clone, Copy, Default)]
 pub struct Setup {
     pub processes: u8,
     pub leaves: u8,
@@ -31,7 +32,7 @@ pub struct Setup {
 // One process (document 01: handset). `name` (pad) is 255 for none; since its last request, `steps` counts its getname steps (spent, the
 // claim figure) and `returns` its return operations.
 #[repr(C)]
-#[derive(Clone, Copy)]
+#[derive(Clone, Copy, Default)]
 pub struct Process {
     pub stage: u8,
     pub node: u8,

@@ -5,7 +5,7 @@ ghost use Rattle.machine.specs.Setup.{plain_of, closing_of};
 use crate::Setup;
 
 // Processes (document 01: handsets) N, leaves L, segments (rows) in a leaf g, bits in a segment b.
-#[derive(Clone, Copy, Debug, PartialEq, Eq)]
+#[derive(Clone, Copy, Debug, Default, PartialEq, Eq)]
 pub struct Numbers {
     pub processes: u8,
     pub leaves: u8,
@@ -34,5 +34,19 @@ impl From<Numbers> for Setup {
 
     fn from(n: Numbers) -> Setup {
         n.closing(0)
+    }
+}
+
+// Those of a setup, whatever it closes.
+impl From<Setup> for Numbers {
+    ghost from_gives = { λ c n. c ≡ closing_of c.closed n };
+
+    fn from(setup: Setup) -> Numbers {
+        Numbers {
+            processes: setup.processes,
+            leaves: setup.leaves,
+            segments: setup.segments,
+            bits: setup.bits,
+        }
     }
 }
