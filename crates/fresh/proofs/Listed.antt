@@ -1,43 +1,27 @@
--- A list of closed names read one after another: what is left of it decides as the whole does. By the list's next name.
---     below_rest, closed_rest      one name more
---     first_below, others_below    the next name of a list of names below k, and those after it
---     or_closing                   one name closed, by its bit
--- Assumes nothing.
-use mathlib.Core.List.{List, ◌∷◌}
-use Prim.Native.Nat.{ℕ, ◌+◌, ◌*◌, ◌%◌, ◌^◌, ◌<◌}
-use native.Mathlib.Numerals.{add-one}
+-- A list of closed names read one after another, by induction on it, and one name closed, by its bit. Assumes nothing.
+use mathlib.Core.List.{List, [], ◌∷◌}
+use Prim.Native.Nat.{ℕ, ◌+◌, ◌*◌, ◌%◌, ◌^◌, ◌≤◌, ◌<◌}
 use lib.Bits.{bit_and, bit_or, or_add_and}
 use lib.Dec.{eqb, ltb}
-use lib.ListN.{length, get_or, drop}
-use lib.Seq.{drop-cons}
+use native.Mathlib.Nat.{mod-lt}
+use Rattle.std.proofs.Math.Nat.{mod-eq_of_lt}
 use Rattle.std.proofs.lemmas.Nat.Bits.{and_pow}
-use Rattle.machine.proofs.Rules.{◌≡◌, ◌∙◌, sym, ap, refl, Bool, true, false, cond, ◌&&◌, arith, ltb-true, eqb-true, eqb-false}
+use Rattle.std.specs.List.{fold}
+use Rattle.machine.proofs.Rules.{◌≡◌, ◌∙◌, ap, refl, Bool, true, false, cond, arith, ltb-true, eqb-true, eqb-false}
 use Rattle.machine.specs.Closed.{closing, closed_by, lists_below}
 use Rattle.machine.specs.Operations.{bit}
 use Rattle.machine.proofs.Facts.Tests.{and_left, and_right}
 use Rattle.fresh.proofs.Counted.{shifted_64}
 
-module _ (xs : List ℕ) (i : ℕ) (l : i < length xs) where
-  next : drop i xs ≡ get_or xs i 0 ∷ drop (i + 1) xs
-  next = drop-cons xs i 0 l ∙ ap (λ (j : ℕ). get_or xs i 0 ∷ drop j xs) (sym (add-one i))
-
-  pub below_rest : (k : ℕ) → lists_below k (drop i xs) ≡ (ltb (get_or xs i 0) k && lists_below k (drop (i + 1) xs))
-  unfolding lists_below
-  below_rest k = ap (lists_below k) next
-
-  pub closed_rest : (w : ℕ) → closed_by w (drop i xs) ≡ closed_by (closing w (get_or xs i 0)) (drop (i + 1) xs)
-  unfolding closed_by
-  closed_rest w = ap (closed_by w) next
-
-  module _ (k : ℕ) (e : lists_below k (drop i xs) ≡ true) where
-    both : (ltb (get_or xs i 0) k && lists_below k (drop (i + 1) xs)) ≡ true
-    both = sym (below_rest k) ∙ e
-
-    pub first_below : get_or xs i 0 < k
-    first_below = ltb-true _ _ (and_left (ltb (get_or xs i 0) k) (lists_below k (drop (i + 1) xs)) both)
-
-    pub others_below : lists_below k (drop (i + 1) xs) ≡ true
-    others_below = and_right (ltb (get_or xs i 0) k) (lists_below k (drop (i + 1) xs)) both
+-- names below k, closed one after another
+pub closed_fold : (k w : ℕ) (ps : List ℕ) → k ≤ 64 → lists_below k ps ≡ true → fold (λ w p. closing w (p % 64)) w ps ≡ closed_by w ps
+unfolding lists_below closed_by
+closed_fold k w [] h e = refl
+closed_fold k w (p ∷ ps) h e =
+    let low = ltb-true p k (and_left (ltb p k) (lists_below k ps) e) in
+    let rest = closed_fold k (closing w p) ps h (and_right (ltb p k) (lists_below k ps) e) in
+    let small : p < 64 = omega (arith, low, h) in
+    rw (mod-eq_of_lt small) rest
 
 -- a bit set by `|` is added where it is clear, and changes nothing where it is set
 set_closing : (w p : ℕ) → bit_or w (2 ^ p) ≡ closing w p
@@ -53,5 +37,6 @@ set_closing w p = go (eqb (bit w p) 0) refl
         let one : bit w p ≡ 1 = omega (arith, eqb-false (bit w p) 0 e) in
         omega (arith, or_add_and w (2 ^ p), both_bits 1 one)
 
-pub or_closing : (w p : ℕ) → p < 64 → bit_or w ((1 * 2 ^ p) % 2 ^ 64) ≡ closing w p
-or_closing w p k = rw (shifted_64 p k) (set_closing w p)
+pub or_closing : (w p : ℕ) → bit_or w ((1 * 2 ^ (p % 64)) % 2 ^ 64) ≡ closing w (p % 64)
+or_closing w p = let k : p % 64 < 64 = mod-lt p (omega arith) in
+    rw (shifted_64 (p % 64) k) (set_closing w (p % 64))

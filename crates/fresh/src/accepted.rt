@@ -1,4 +1,5 @@
-// What an accepted setup gives: its names, its closed names word by word, a counter's fresh value, and its state.
+// What an accepted setup gives: its names, its closed names word by word, a counter's fresh value, and its state. Where `as` narrows, the
+// check proves that no number is cut: TryFrom would add a case that cannot be.
 ghost use Rattle.std.specs.Prelude.{◌≡◌, ◌+◌, ◌*◌, ◌<◌};
 ghost use Rattle.machine.specs.Below.{tabulate};
 ghost use Rattle.machine.specs.Closed.{closed_word};
@@ -7,6 +8,7 @@ ghost use Rattle.machine.specs.State.{depth, fresh_counter, fresh_process_at, pa
 
 use crate::{closed, limits, state};
 use machine::{Process, Refusal, Setup, State};
+use std::array;
 use std::marker::Model;
 
 // A setup that passed its checks, on which each method may rest: its values keep that, and `of` asks for it.
@@ -104,46 +106,41 @@ impl Accepted {
         n - closed::closed_in(closed, before * n, n)
     }
 
-    // The counters of so many nodes, from node l - 1 up to node 1, with 0 at every other place.
-    fn counters(self, count: u64) -> [u8; 16]
-        ensures { result ≡ tabulate 16 (partial_counter_at self count) }
+    // Node v's counter where the count reaches it, from node l - 1 down to node 1; 0 at every other place.
+    fn counter(self, v: u8, count: u64) -> u8
+        ensures { result ≡ partial_counter_at self count v }
     {
         let leaves = self.setup.leaves;
-        let every = leaves - 1;
-        let filled = count.min(every as u64) as u8;
-        let first = leaves - filled;
-        let mut counters = [0; 16];
-        for v in (first..leaves).rev() {
-            counters[v as usize] = self.fresh_counter(v);
+        if !(1..leaves).contains(&v) || u64::from(leaves - v) > count {
+            return 0;
         }
-        counters
+        self.fresh_counter(v)
     }
 
-    // The processes in use fresh, with an unused place at each of the others.
-    fn processes(self) -> [Process; 64]
-        ensures { result ≡ tabulate 64 (fresh_process_at self) }
+    // A process in use is fresh; any other place is unused.
+    #[tactic(auto, unfolding(machine::specs::State::fresh_process_at))]
+    fn process(self, p: usize) -> Process
+        ensures { result ≡ fresh_process_at self p }
     {
-        let mut process = [state::no_process(); 64];
-        for p in 0..self.setup.processes {
-            process[p as usize] = state::fresh_process();
+        if p < usize::from(self.setup.processes) {
+            state::fresh_process()
+        } else {
+            Process::default()
         }
-        process
     }
 
-    // The fresh state with so many of its counters: segment words, then counters.
+    // The fresh state with so many of its counters.
     pub fn state(self, count: u64) -> State
         ensures { result ≡ partial self count }
     {
-        let words = [0; 64];
-        let counters = self.counters(count);
         State {
             setup: self.setup,
             gate: self.open_names() as i8,
             queued: 0,
             queue: [0; 64],
-            counters,
-            words,
-            process: self.processes(),
+            counters: array::from_fn(|v| self.counter(v as u8, count)),
+            words: [0; 64],
+            process: array::from_fn(|p| self.process(p)),
         }
     }
 }

@@ -1,4 +1,5 @@
-// Which names are closed (document 02, e: closed pads): the bits of one number of 64, read with no loop over names.
+// Which names are closed (document 02, e: closed pads): the bits of one number of 64, read with no loop over names. Where `as` narrows, the
+// check proves that no number is cut: TryFrom would add a case that cannot be.
 ghost use Rattle.std.specs.Prelude.{◌≡◌, ◌*◌, ◌-◌, ◌/◌, ◌%◌, ◌^◌, ◌≤◌, ◌<◌, ltb};
 ghost use Rattle.std.specs.Int.Count.{ones};
 ghost use Rattle.machine.specs.Setup.{names, open_names};
@@ -6,21 +7,12 @@ ghost use Rattle.fresh.specs.Counts.{closed_in};
 
 use machine::Setup;
 
-// n bits, all of them 1.
-fn mask(n: u8) -> u64
-    requires { n < 64 }
-    ensures { result ≡ 2 ^ n - 1 }
-{
-    (1u64 << n) - 1
-}
-
 // The lowest n bits of w.
 pub fn lowest(w: u64, n: u8) -> u64
     requires { n < 64 }
     ensures { result ≡ w % 2 ^ n }
 {
-    let low = mask(n);
-    w & low
+    w & ((1u64 << n) - 1)
 }
 
 // n bits of w, from bit `first` on.

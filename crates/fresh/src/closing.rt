@@ -1,14 +1,13 @@
 // A list of closed names (document 02, e: closed pads), one byte each, as one number.
-ghost use Rattle.std.specs.Prelude.{true, ◌≡◌, ◌<◌, ◌≤◌};
+ghost use Rattle.std.specs.Prelude.{true, ◌≡◌, ◌%◌, ◌≤◌};
 ghost use Rattle.machine.specs.Closed.{closing, closed_by, lists_below};
 
-// One name more is closed; one that is closed stays so.
+// One name below 64 more is closed; one that is closed stays so.
 #[tactic(auto, using(crate::proofs::Listed::or_closing))]
 fn close(closed: u64, p: u8) -> u64
-    requires { p < 64 }
-    ensures { result ≡ closing closed p }
+    ensures { result ≡ closing closed (p % 64) }
 {
-    closed | (1u64 << p)
+    closed | 1u64.wrapping_shl(p.into())
 }
 
 // Is every name of the list below k?
@@ -23,9 +22,5 @@ pub fn closed_of(list: &[u8], k: u8) -> u64
     requires { (k ≤ 64) × (lists_below k list.now ≡ true) }
     ensures { result ≡ closed_by 0 list.now }
 {
-    let mut closed = 0;
-    for &p in list {
-        closed = close(closed, p);
-    }
-    closed
+    list.iter().fold(0, |closed, &p| close(closed, p))
 }

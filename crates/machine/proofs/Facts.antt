@@ -11,3 +11,4 @@ pub mod Checks
 pub mod Refusals
 pub mod SetupFirst
 pub mod Filled
+pub mod FromFn

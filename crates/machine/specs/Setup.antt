@@ -19,7 +19,11 @@ given n l g b ps = numbered n l g b (closed_by 0 ps)
 abbrev pub plain : ℕ → ℕ → ℕ → ℕ → Setup
 plain n l g b = numbered n l g b 0
 
--- the same of the record of four numbers; and the setup that closes the names whose bits are 1 in a number
+-- four numbers as a record
+abbrev pub four : ℕ → ℕ → ℕ → ℕ → Numbers
+four n l g b = record { processes = n; leaves = l; segments = g; bits = b }
+
+-- the same of that record; and the setup that closes the names whose bits are 1 in a number
 abbrev pub closing_of : ℕ → Numbers → Setup
 closing_of closed n = numbered n.processes n.leaves n.segments n.bits closed
 
