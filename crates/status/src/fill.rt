@@ -1,23 +1,10 @@
 // The status records, filled.
-ghost use Rattle.std.specs.Prelude.{◌≡◌, ◌≤◌};
+ghost use Rattle.std.specs.Prelude.{◌≡◌};
 ghost use Rattle.machine.specs.Refusal.{answered};
-ghost use Rattle.machine.specs.Reports.{status_answer, status_of, status_records};
-ghost use Rattle.machine.specs.State.{figure};
+ghost use Rattle.machine.specs.Reports.{status_answer, status_records};
 
-use machine::{Process, Refusal, State, Status};
+use machine::{Refusal, State, Status};
 use ranges::range;
-
-// Stage, name and figure of a process.
-fn status_of(h: Process) -> Status
-    requires { figure h ≤ 255 }
-    ensures { result ≡ status_of h }
-{
-    Status {
-        stage: h.stage,
-        name: h.name,
-        figure: h.figure(),
-    }
-}
 
 // Fills lent records, one for each process in rising order. Refused with 15 for the state, then 13 where the records are fewer than the
 // processes: nothing is written. The records from N on are untouched.
@@ -33,8 +20,14 @@ pub fn fill_status(state: &State, records: &mut [Status]) -> Result<(), Refusal>
     if records.len() < n {
         return Err(Refusal::Short);
     }
+    // By index: of a slice that `iter_mut` lent no proof knows what it holds afterwards, and of a record's array of records not its length.
     for i in 0..n {
-        records[i] = status_of(state.process[i]);
+        let h = state.process[i];
+        records[i] = Status {
+            stage: h.stage,
+            name: h.name,
+            figure: h.figure(),
+        };
     }
     Ok(())
 }

@@ -14,8 +14,8 @@ pub bounds-state-i : goal.bounds-state-i
 bounds-state-i c =
     omega (arith, (ranges_of c.args.state.now (sym c.in_range.ensures ∙ c.if-not-in_range.false)).limits.n64, c.loop-i-test.true)
 
-pub status_of-requires : goal.status_of-requires
-status_of-requires c =
+pub figure-requires : goal.figure-requires
+figure-requires c =
     let k = ranges_of c.args.state.now (sym c.in_range.ensures ∙ c.if-not-in_range.false) in
     (k.process c.loop-i.i (omega (arith, c.loop-i-test.true))).shown
 
@@ -24,7 +24,7 @@ loop-i-preserved c =
     let s = c.args.state.now in
     let i : ℕ = c.loop-i.i in
     let n64 = (ranges_of s (sym c.in_range.ensures ∙ c.if-not-in_range.false)).limits.n64 in
-    rw (c.status_of.ensures, c.loop-i.invariant, add-one i)
+    rw (c.figure.ensures, c.loop-i.invariant, add-one i)
     (written_more status_of s.process no_process i c.args.records.now (search (rules, n64, c.loop-i-test.true))
     (omega (arith, c.loop-i-test.true)))
 
