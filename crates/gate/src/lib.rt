@@ -1,7 +1,9 @@
 // The gate word and its queue: entering, waiting and leaving. For the operations; a user calls those above them.
 #![tactic(auto)]
 
-ghost use Rattle.std.specs.Prelude.{◌≡◌, ◌≤◌, get_or, set};
+ghost use Rattle.std.specs.Borrow.{Array, LendsIf, sem};
+ghost use Rattle.std.specs.Prelude.{◌≡◌, ◌≤◌, ◌<◌, get_or, set, length, MatchOption};
+ghost use Rattle.machine.specs.contracts.Process.{the_row};
 ghost use Rattle.machine.specs.Gate.{enter, await, leave, in_queue, head_gone};
 ghost use Rattle.machine.specs.Refusal.{answered};
 ghost use Rattle.machine.specs.Room.{can_rise, enter_room, where_room};
@@ -10,27 +12,17 @@ ghost use Rattle.machine.specs.State.{done, no_process, with_segment, with_stage
 
 use machine::{Process, Refusal, State, stage};
 
-// The next stage of process p. A place past the end has no record, so that nothing is asked of p.
-#[tactic(auto, using(crate::proofs::Queue::none_past_the_end))]
-fn set_stage(process: &mut [Process], p: u8, stage: u8)
-    ensures { process.new ≡ set process.old p (with_stage stage (get_or process.old p no_process)) }
+// The record of process p, where there is one: so nothing is asked of p. `get_mut` gives the same, and says nothing of what the slice
+// ends as.
+fn record_of(process: &mut [Process], p: u8) -> Option<&mut Process>
+    ensures* writes_back { sem 𝓛 (LendsIf (Array the_row 0) the_row process.entry result (set process.old p) process.old) }
+    ensures item { MatchOption result (length process.old ≤ p) (λ h. (p < length process.old) × (h.now ≡ get_or process.old p no_process)) }
 {
-    if (p as usize) < process.len() {
-        process[p as usize].stage = stage;
+    let p = usize::from(p);
+    if p >= process.len() {
+        return None;
     }
-}
-
-// Process p idle again.
-#[tactic(auto, using(crate::proofs::Queue::none_past_the_end))]
-fn set_idle(process: &mut [Process], p: u8)
-    ensures { process.new ≡ set process.old p (with_stage remainder (with_segment 0 (get_or process.old p no_process))) }
-{
-    if (p as usize) < process.len() {
-        let mut h = process[p as usize];
-        h.stage = stage::REMAINDER;
-        h.segment = 0;
-        process[p as usize] = h;
-    }
+    Some(&mut process[p])
 }
 
 // Stage 1: past the gate, or to the queue's end.
@@ -39,15 +31,19 @@ pub fn enter(s: &mut State, p: u8) -> Result<(), Refusal>
     ensures { done (answered result) s.new ≡ where_room (enter_room s.old) (enter s.old p) s.old }
 {
     if s.gate > 0 {
-        set_stage(&mut s.process, p, stage::GETNAME);
+        if let Some(h) = record_of(&mut s.process, p) {
+            h.stage = stage::GETNAME;
+        }
         s.gate -= 1;
         return Ok(());
     }
     if s.gate <= -64 || s.queued >= 64 {
         return Err(Refusal::BrokenState);
     }
-    set_stage(&mut s.process, p, stage::WAITING);
-    s.queue[s.queued as usize] = p;
+    if let Some(h) = record_of(&mut s.process, p) {
+        h.stage = stage::WAITING;
+    }
+    s.queue[usize::from(s.queued)] = p;
     s.queued += 1;
     s.gate -= 1;
     Ok(())
@@ -59,13 +55,13 @@ fn is_queued(s: &State, p: u8) -> bool
     ensures { result ≡ in_queue s.now p }
 {
     let n = s.queued;
-    s.queue[..n as usize]
+    s.queue[..usize::from(n)]
         .iter()
         .fold(false, |found, &x| found | (x == p))
 }
 
 // Stage 2: on to stage 3 once out of the queue.
-#[tactic(auto, using(crate::proofs::Queue::await_is))]
+#[tactic(auto, using(crate::proofs::Queue::await_is, crate::proofs::Queue::none_past_the_end))]
 pub fn wait(s: &mut State, p: u8)
     requires { s.old.queued ≤ 64 }
     ensures { s.new ≡ await s.old p }
@@ -73,7 +69,9 @@ pub fn wait(s: &mut State, p: u8)
     if is_queued(s, p) {
         return;
     }
-    set_stage(&mut s.process, p, stage::GETNAME);
+    if let Some(h) = record_of(&mut s.process, p) {
+        h.stage = stage::GETNAME;
+    }
 }
 
 // The queue's head, if there is one, leaves, and the rest move up.
@@ -94,11 +92,14 @@ pub fn leave(s: &mut State, p: u8, open_names: u8) -> Result<(), Refusal>
     requires { open_names ≤ 64 }
     ensures { done (answered result) s.new ≡ where_room (can_rise open_names s.old.gate) (leave s.old p) s.old }
 {
-    if s.gate >= open_names as i8 {
+    if i16::from(s.gate) >= i16::from(open_names) {
         return Err(Refusal::BrokenState);
     }
     s.gate += 1;
     advance(s);
-    set_idle(&mut s.process, p);
+    if let Some(h) = record_of(&mut s.process, p) {
+        h.stage = stage::REMAINDER;
+        h.segment = 0;
+    }
     Ok(())
 }

@@ -7,6 +7,7 @@ ghost use Rattle.machine.specs.Room.{getname_room, where_room};
 ghost use Rattle.machine.specs.State.{done, figure, process_at};
 ghost use Rattle.operations.specs.Setting.{Setting};
 
+use crate::place::Place;
 use crate::words;
 use fresh::accepted::Accepted;
 use machine::{ClaimStep, Process, Refusal, Setup, State, stage};
@@ -59,48 +60,39 @@ fn claim(mut h: Process, step: ClaimStep) -> Process
 
 // At a node below L: bounded_decrement of its counter.
 #[tactic(auto, unfolding(machine::specs::Getname::descend, machine::specs::Operations::bounded_decrement))]
-fn descend(s: &mut State, p: u8) -> Result<(), Refusal>
-    requires known { p < 64 }
+fn descend(s: &mut State, p: Place) -> Result<(), Refusal>
     requires node { (process_at s.old p).node < 16 }
     ensures { done (answered result) s.new ≡ where_room (getname_room s.old p) (descend s.old p) s.old }
 {
-    let h = s.process[p as usize];
-    if !h.has_room() {
-        return Err(Refusal::BrokenState);
-    }
-    let old = words::bounded_decrement(&mut s.counters[h.node as usize]);
-    s.process[p as usize] = claim(h, side_of(h.node, old));
+    let h = p.roomy(s)?;
+    let old = words::bounded_decrement(&mut s.counters[usize::from(h.node)]);
+    s.process[p.index()] = claim(h, side_of(h.node, old));
     Ok(())
 }
 
 // At a leaf: set_first_zero on its segment word.
 #[tactic(auto, unfolding(machine::specs::Getname::probe, machine::specs::Operations::set_first_zero))]
-fn probe(s: &mut State, p: u8) -> Result<(), Refusal>
-    requires known { p < 64 }
+fn probe(s: &mut State, p: Place) -> Result<(), Refusal>
     requires told { Setting s.old.setup (process_at s.old p) }
     requires leaf { s.old.setup.leaves ≤ (process_at s.old p).node }
     ensures { done (answered result) s.new ≡ where_room (getname_room s.old p) (probe s.old p) s.old }
 {
-    let h = s.process[p as usize];
-    if !h.has_room() {
-        return Err(Refusal::BrokenState);
-    }
+    let h = p.roomy(s)?;
     let setup = s.setup;
     let word = (h.node - setup.leaves) * setup.segments + h.segment;
     let closed = Accepted::of(setup).closed_word(word);
-    let bit = words::set_first_zero(&mut s.words[word as usize], setup.bits, closed);
-    s.process[p as usize] = claim(h, outcome_of(setup, word, h.segment, bit));
+    let bit = words::set_first_zero(&mut s.words[usize::from(word)], setup.bits, closed);
+    s.process[p.index()] = claim(h, outcome_of(setup, word, h.segment, bit));
     Ok(())
 }
 
 // One step: at a node or at a leaf.
 #[tactic(auto, unfolding(machine::specs::Getname::getname_step))]
-pub fn getname_step(s: &mut State, p: u8) -> Result<(), Refusal>
-    requires known { p < 64 }
+pub fn getname_step(s: &mut State, p: Place) -> Result<(), Refusal>
     requires told { Setting s.old.setup (process_at s.old p) }
     ensures { done (answered result) s.new ≡ where_room (getname_room s.old p) (getname_step s.old p) s.old }
 {
-    if s.process[p as usize].node < s.setup.leaves {
+    if s.process[p.index()].node < s.setup.leaves {
         descend(s, p)
     } else {
         probe(s, p)

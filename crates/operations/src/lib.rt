@@ -4,28 +4,30 @@
 #![tactic(auto)]
 
 mod getname;
+mod place;
 mod putname;
 pub mod words;
 
 ghost use Rattle.std.specs.Prelude.{true, ◌≡◌, ◌<◌};
 ghost use Rattle.machine.specs.Event.{request, step, release, event};
+ghost use Rattle.machine.specs.Kind.{code};
 ghost use Rattle.machine.specs.Range.{in_range};
 ghost use Rattle.machine.specs.Refusal.{answered};
 ghost use Rattle.machine.specs.State.{done};
 
+use crate::place::Place;
 use fresh::state;
 use machine::{Kind, Process, Refusal, State, stage};
 
 // Request (ask), only in the remainder section.
 #[tactic(auto, unfolding(machine::specs::Event::request))]
-fn request(s: &mut State, p: u8) -> Result<(), Refusal>
-    requires { p < 64 }
+fn request(s: &mut State, p: Place) -> Result<(), Refusal>
     ensures { done (answered result) s.new ≡ request s.old p }
 {
-    if s.process[p as usize].stage != stage::REMAINDER {
+    if s.process[p.index()].stage != stage::REMAINDER {
         return Err(Refusal::Busy);
     }
-    s.process[p as usize] = Process {
+    s.process[p.index()] = Process {
         stage: stage::ENTRY,
         ..state::fresh_process()
     };
@@ -34,16 +36,16 @@ fn request(s: &mut State, p: u8) -> Result<(), Refusal>
 
 // Step (turn), never in the remainder section or at work; the stage decides: document 01 wants the match over its number.
 #[tactic(auto, using(crate::proofs::Turns::turns))]
-fn step(s: &mut State, p: u8) -> Result<(), Refusal>
+fn step(s: &mut State, p: Place) -> Result<(), Refusal>
     requires range { in_range s.old ≡ true }
     requires known { p < s.old.setup.processes }
     ensures { done (answered result) s.new ≡ step s.old p }
 {
-    match s.process[p as usize].stage {
+    match s.process[p.index()].stage {
         stage::REMAINDER => Err(Refusal::NotMoving),
-        stage::ENTRY => gate::enter(s, p),
+        stage::ENTRY => gate::enter(s, p.number()),
         stage::WAITING => {
-            gate::wait(s, p);
+            gate::wait(s, p.number());
             Ok(())
         }
         stage::GETNAME => getname::getname_step(s, p),
@@ -56,30 +58,38 @@ fn step(s: &mut State, p: u8) -> Result<(), Refusal>
 
 // Release (finish), only at work.
 #[tactic(auto, unfolding(machine::specs::Event::release))]
-fn release(s: &mut State, p: u8) -> Result<(), Refusal>
-    requires { p < 64 }
+fn release(s: &mut State, p: Place) -> Result<(), Refusal>
     ensures { done (answered result) s.new ≡ release s.old p }
 {
-    if s.process[p as usize].stage != stage::WORKING {
+    if s.process[p.index()].stage != stage::WORKING {
         return Err(Refusal::NoNameHeld);
     }
-    s.process[p as usize].stage = stage::PUTNAME;
+    s.process[p.index()].stage = stage::PUTNAME;
     Ok(())
 }
 
-// An event: an unknown kind, then a stranger, then the refusals of its kind.
+// An event of this kind: a stranger first, then the refusals of the kind.
 #[tactic(auto, using(crate::proofs::Turns::turns), unfolding(machine::specs::Event::event))]
-pub fn event(s: &mut State, kind: u8, p: u8) -> Result<(), Refusal>
+pub fn carry_out(s: &mut State, kind: Kind, p: u8) -> Result<(), Refusal>
     requires { in_range s.old ≡ true }
-    ensures { done (answered result) s.new ≡ event s.old kind p }
+    ensures { done (answered result) s.new ≡ event s.old (code kind) p }
 {
-    let kind = Kind::try_from(kind)?;
     if p >= s.setup.processes {
         return Err(Refusal::Stranger);
     }
+    let p = Place::of(p);
     match kind {
         Kind::Request => request(s, p),
         Kind::Step => step(s, p),
         Kind::Release => release(s, p),
     }
+}
+
+// An event: an unknown kind is refused before all else.
+#[tactic(auto, unfolding(machine::specs::Event::event))]
+pub fn event(s: &mut State, kind: u8, p: u8) -> Result<(), Refusal>
+    requires { in_range s.old ≡ true }
+    ensures { done (answered result) s.new ≡ event s.old kind p }
+{
+    carry_out(s, Kind::try_from(kind)?, p)
 }

@@ -6,6 +6,7 @@ ghost use Rattle.machine.specs.Room.{has_room, climb_room, putname_room, where_r
 ghost use Rattle.machine.specs.State.{done, none, figure, process_at};
 ghost use Rattle.operations.specs.Setting.{Setting};
 
+use crate::place::Place;
 use crate::words;
 use fresh::accepted::Accepted;
 use machine::{NO_NAME, Process, Refusal, State};
@@ -23,59 +24,53 @@ fn returned(h: Process) -> Process
 
 // With a name: its bit is cleared.
 #[tactic(auto, unfolding(machine::specs::Putname::give_back))]
-fn give_back(s: &mut State, p: u8) -> Result<(), Refusal>
-    requires known { p < 64 }
+fn give_back(s: &mut State, p: Place) -> Result<(), Refusal>
     requires told { Setting s.old.setup (process_at s.old p) }
     requires named { (process_at s.old p).name ≢ none }
     ensures { done (answered result) s.new ≡ where_room (has_room (process_at s.old p)) (give_back s.old p) s.old }
 {
-    let mut h = s.process[p as usize];
-    if !h.has_room() {
-        return Err(Refusal::BrokenState);
-    }
+    let mut h = p.roomy(s)?;
     let word = h.name / s.setup.bits;
-    words::clr_bit(&mut s.words[word as usize], h.name % s.setup.bits);
+    words::clr_bit(&mut s.words[usize::from(word)], h.name % s.setup.bits);
     h.name = NO_NAME;
-    s.process[p as usize] = returned(h);
+    s.process[p.index()] = returned(h);
     Ok(())
 }
 
 // With no name, above node 1: up to the parent, whose counter rises from a left child.
 #[tactic(auto, unfolding(machine::specs::Putname::climb))]
-fn climb(s: &mut State, p: u8) -> Result<(), Refusal>
-    requires known { p < 64 }
+fn climb(s: &mut State, p: Place) -> Result<(), Refusal>
     requires told { Setting s.old.setup (process_at s.old p) }
     requires above { 1 < (process_at s.old p).node }
     ensures { done (answered result) s.new ≡ where_room (climb_room s.old p) (climb s.old p) s.old }
 {
-    let mut h = s.process[p as usize];
+    let mut h = s.process[p.index()];
     let parent = h.node / 2;
     if h.node % 2 == 0 {
-        let counter = s.counters[parent as usize];
-        if counter >= Accepted::of(s.setup).fresh_counter(parent) || !h.has_room() {
+        let counter = s.counters[usize::from(parent)];
+        if counter >= Accepted::of(s.setup).fresh_counter(parent) {
             return Err(Refusal::BrokenState);
         }
-        s.counters[parent as usize] = counter + 1;
-        h = returned(h);
+        h = returned(p.roomy(s)?);
+        s.counters[usize::from(parent)] = counter + 1;
     }
     h.node = parent;
-    s.process[p as usize] = h;
+    s.process[p.index()] = h;
     Ok(())
 }
 
 // One step: with a name, above node 1, or at node 1, where the process leaves.
 #[tactic(auto, unfolding(machine::specs::Putname::putname_step))]
-pub fn putname_step(s: &mut State, p: u8) -> Result<(), Refusal>
-    requires known { p < 64 }
+pub fn putname_step(s: &mut State, p: Place) -> Result<(), Refusal>
     requires told { Setting s.old.setup (process_at s.old p) }
     ensures { done (answered result) s.new ≡ where_room (putname_room s.old p) (putname_step s.old p) s.old }
 {
-    let h = s.process[p as usize];
+    let h = s.process[p.index()];
     if h.name != NO_NAME {
         give_back(s, p)
     } else if h.node > 1 {
         climb(s, p)
     } else {
-        gate::leave(s, p, Accepted::of(s.setup).open_names())
+        gate::leave(s, p.number(), Accepted::of(s.setup).open_names())
     }
 }

@@ -1,4 +1,5 @@
-// The three atomic operations of 003, section 7.1, on one word.
+// The three atomic operations of 003, section 7.1, on one word. A number is narrowed by `as`: the check proves that it is not cut, and
+// TryFrom would add a case that cannot happen.
 ghost use Rattle.std.specs.Prelude.{◌≡◌, ◌<◌, ◌≤◌, IfSome};
 ghost use Rattle.std.specs.Option.{unwrap_or};
 ghost use Rattle.machine.specs.Operations.{first_zero, set_first_zero, clr_bit, bounded_decrement};

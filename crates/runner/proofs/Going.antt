@@ -1,14 +1,15 @@
--- A list half run: what is written, and what the rest of the list will do, are the whole run. One event more, and the end, by the two bytes
--- of an event and the four of its entry. Assumes nothing.
+-- A list half run: what is written, and what the rest of the list will do, are the whole run. One event more, and the end, by the pairs of
+-- its bytes and the four of an entry. Assumes nothing.
 use mathlib.Core.List.{List, [], ◌∷◌, ◌++◌, append_assoc}
-use Prim.Native.Nat.{ℕ, suc, ◌+◌, ◌*◌, ◌/◌, ◌%◌, ◌≤◌, ◌<◌}
+use Prim.Native.Nat.{ℕ, zero, suc, ◌+◌, ◌*◌, ◌/◌, ◌≤◌, ◌<◌}
 use borrow.Rule.Slice.PartMut.{put_mid}
 use native.Mathlib.Decide.{dec_lt}
 use native.Mathlib.Numerals.{add-one}
 use lib.ListN.{length, take, drop, get_or, drop_of_length-le, take-append-drop}
 use lib.Seq.{drop-cons}
 use Rattle.std.proofs.lemmas.Slice.{take-put_mid, drop-put_mid}
-use Rattle.machine.proofs.Facts.Lists.{add_two}
+use Rattle.std.specs.Prelude.{map}
+use Rattle.std.specs.Simd.{first_chunks}
 use Rattle.machine.proofs.Laws.Answers.{kind-refused, stranger-refused}
 use Rattle.machine.proofs.Laws.OnePlace.{setup_unchanged}
 use Rattle.machine.proofs.Laws.Parts.{entry_length}
@@ -25,29 +26,43 @@ use Rattle.machine.specs.declared.Done.{Done}
 use Rattle.machine.specs.declared.Setup.{Setup}
 use Rattle.machine.specs.declared.State.{State}
 
--- event i of the bytes, and the events from it on
-abbrev pub event_at : List ℕ → ℕ → Event
-event_at bytes i = event_of (get_or bytes (2 * i) 0) (get_or bytes (2 * i + 1) 0)
+-- the event that stands in a pair of bytes, and the events of the pairs from i on
+abbrev pub event_in : List ℕ → Event
+event_in pair = event_of (get_or pair 0 0) (get_or pair 1 0)
 
-abbrev rest : List ℕ → ℕ → List Event
-rest bytes i = events_of (drop (2 * i) bytes)
+abbrev rest : List (List ℕ) → ℕ → List Event
+rest pairs i = map event_in (drop i pairs)
+
+-- the events of a list's bytes are those of its pairs
+paired : (k : ℕ) (bytes : List ℕ) → k ≡ length bytes / 2 → map event_in (first_chunks 2 k bytes) ≡ events_of bytes
+unfolding events_of
+paired zero [] e = refl
+paired zero (a ∷ []) e = refl
+paired zero (a ∷ b ∷ bytes) e = absurd (omega (arith, e))
+paired (suc k) [] e = absurd (omega (arith, e))
+paired (suc k) (a ∷ []) e = absurd (omega (arith, e))
+paired (suc k) (a ∷ b ∷ bytes) e = ap (λ (es : List Event). event_of a b ∷ es) (paired k bytes (omega (arith, e)))
 
 -- the run from event i on, in a state in range and with what is written before it, is the whole run
-pub record Going (bytes lent : List ℕ) (s₀ : State) (j : List ℕ) (s : State) (i : ℕ) : Type 0 where
+pub record Going (pairs : List (List ℕ)) (bytes lent : List ℕ) (s₀ : State) (j : List ℕ) (s : State) (i : ℕ) : Type 0 where
   pub range : in_range s ≡ true
-  pub state : after s (rest bytes i) ≡ after s₀ (events_of bytes)
-  pub entries : take (4 * i) j ++ (journal s (rest bytes i) ++ drop (journal_length bytes) j) ≡ written s₀ bytes lent
+  pub state : after s (rest pairs i) ≡ after s₀ (events_of bytes)
+  pub entries : take (4 * i) j ++ (journal s (rest pairs i) ++ drop (journal_length bytes) j) ≡ written s₀ bytes lent
 
-module _ (bytes : List ℕ) (i : ℕ) (l : 2 * i + 1 < length bytes) where
-  two : drop (2 * i) bytes ≡ get_or bytes (2 * i) 0 ∷ get_or bytes (2 * i + 1) 0 ∷ drop (2 * i + 2) bytes
-  two =
-      drop-cons bytes (2 * i) 0 (omega arith)
-      ∙ ap (λ (r : List ℕ). get_or bytes (2 * i) 0 ∷ r)
-      (rw (add_two, add-one) (drop-cons bytes (suc (2 * i)) 0 (omega arith)))
+-- nothing has run, and all is still to come
+pub begin :
+    {pairs : List (List ℕ)} (bytes lent : List ℕ) (s : State) → pairs ≡ first_chunks 2 (length bytes / 2) bytes → in_range s ≡ true
+    → Going pairs bytes lent s lent s 0
+begin bytes lent s e range =
+    let all = ap (map event_in) e ∙ paired (length bytes / 2) bytes refl in
+    record {
+      range = range;
+      state = ap (after s) all;
+      entries = ap (λ (es : List Event). journal s es ++ drop (journal_length bytes) lent) all;
+    }
 
-  rest_step : rest bytes i ≡ event_at bytes i ∷ rest bytes (i + 1)
-  unfolding events_of
-  rest_step = ap events_of two ∙ ap (λ (n : ℕ). event_at bytes i ∷ events_of (drop n bytes)) (omega arith)
+rest_step : (pairs : List (List ℕ)) (i : ℕ) → i < length pairs → rest pairs i ≡ event_in (get_or pairs i []) ∷ rest pairs (i + 1)
+rest_step pairs i l = rw add-one (ap (map event_in) (drop-cons pairs i [] l))
 
 -- one entry more, put into its place
 entry_step :
@@ -60,31 +75,32 @@ entry_step entry j rest i n four h k =
       drop-put_mid (4 * i) 4 j entry n (omega (arith, k)) (omega (arith, h)) four,
     ) (simp append_assoc)
 
-module _ {bytes lent : List ℕ} {s₀ : State} {j : List ℕ} {s : State} {i : ℕ} (g : Going bytes lent s₀ j s i) where
+module _ {pairs : List (List ℕ)} {bytes lent : List ℕ} {s₀ : State} {j : List ℕ} {s : State} {i : ℕ} (g : Going pairs bytes lent s₀ j s i) where
   -- one event more: its state, and its entry stored
-  pub next : 2 * i + 1 < length bytes → 2 * length bytes ≤ length j
-      → Going bytes lent s₀ (put_mid (4 * i) 4 j (entry_of s (event_at bytes i))) (event_done s (event_at bytes i)).state (i + 1)
+  pub next : i < length pairs → length pairs ≡ length bytes / 2 → 2 * length bytes ≤ length j
+      → (let e = event_in (get_or pairs i []) in
+      Going pairs bytes lent s₀ (put_mid (4 * i) 4 j (entry_of s e)) (event_done s e).state (i + 1))
   unfolding after journal
-  next l room =
-      let e = event_at bytes i in
+  next l n room =
+      let e = event_in (get_or pairs i []) in
       let t = (event_done s e).state in
       record {
         range = range_kept s g.range e.kind e.process;
-        state = sym (ap (after s) (rest_step bytes i l)) ∙ g.state;
-        entries = entry_step (entry_of s e) j (journal t (rest bytes (i + 1))) i (journal_length bytes) (entry_length s e)
-            (omega (arith, l, room)) (omega (arith, l))
-            ∙ sym (ap (λ (es : List Event). take (4 * i) j ++ (journal s es ++ drop (journal_length bytes) j)) (rest_step bytes i l))
+        state = sym (ap (after s) (rest_step pairs i l)) ∙ g.state;
+        entries = entry_step (entry_of s e) j (journal t (rest pairs (i + 1))) i (journal_length bytes) (entry_length s e)
+            (omega (arith, l, n, room)) (omega (arith, l, n))
+            ∙ sym (ap (λ (es : List Event). take (4 * i) j ++ (journal s es ++ drop (journal_length bytes) j)) (rest_step pairs i l))
             ∙ g.entries;
       }
 
   -- at the end of the list
-  pub finish : length bytes % 2 ≡ 0 → length bytes / 2 ≤ i → 2 * i ≤ length bytes
+  pub finish : length pairs ≡ length bytes / 2 → length pairs ≤ i → i ≤ length pairs
       → (s ≡ after s₀ (events_of bytes)) × (j ≡ written s₀ bytes lent)
-  unfolding after journal events_of
-  finish even h k =
-      let none : drop (2 * i) bytes ≡ [] = drop_of_length-le bytes (omega (arith, even, h)) in
-      let n : 4 * i ≡ journal_length bytes = omega (arith, even, h, k) in
-      (rw none at g.state, sym (take-append-drop (journal_length bytes) j) ∙ rw (none, n) at g.entries)
+  unfolding after journal
+  finish n h k =
+      let none : drop i pairs ≡ [] = drop_of_length-le pairs h in
+      let size : 4 * i ≡ journal_length bytes = omega (arith, n, h, k) in
+      (rw none at g.state, sym (take-append-drop (journal_length bytes) j) ∙ rw (none, size) at g.entries)
 
 -- what an event answers and leaves: an entry that shows its process is a member's, whose figure is a byte
 module _ (s : State) (range : in_range s ≡ true) (k p a : ℕ) (t : State) (is : done a t ≡ event s k p) (shows : shows_none a ≡ false) where

@@ -18,6 +18,6 @@ pub(crate) fn entry(r: Result<(), Refusal>, s: &State, p: u8) -> [u8; 4]
     if let Err(Refusal::Kind | Refusal::Stranger | Refusal::BrokenState) = r {
         return [answer, UNSHOWN, UNSHOWN, UNSHOWN];
     }
-    let h = s.process[p as usize];
+    let h = s.process[usize::from(p)];
     [answer, h.stage, h.name, h.figure()]
 }

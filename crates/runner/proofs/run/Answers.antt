@@ -1,15 +1,17 @@
 -- Each turn of the loop carries out one event and writes its entry; the rest of the list from there is the rest of the run.
 -- Assumes nothing.
+use mathlib.Core.List.{[]}
 use Prim.Native.Nat.{ℕ, ◌+◌, ◌*◌, ◌-◌}
-use Rattle.machine.proofs.Rules.{◌≡◌, ◌∙◌, ap, refl, arith}
+use lib.ListN.{get_or}
+use Rattle.machine.proofs.Rules.{◌≡◌, ◌∙◌, ap, arith}
 use Rattle.machine.specs.Lists.{entry_bytes, entry_of}
 use Rattle.machine.specs.State.{process_at}
 use Rattle.machine.specs.declared.Done.{Done}
-use Rattle.runner.proofs.Going.{event_at, next, finish, shown}
+use Rattle.runner.proofs.Going.{event_in, begin, next, finish, shown}
 use Rattle.runner.proofs.run.Goals as goal
 
 pub loop-i-init : goal.loop-i-init
-loop-i-init c = record { range = c.requires.range; state = refl; entries = refl }
+loop-i-init c = begin c.args.events.now c.args.journal.now c.args.s.now c.as_chunks.ensures.front c.requires.range
 
 pub event-answer-requires : goal.event-answer-requires
 event-answer-requires c = c.loop-i.invariant.range
@@ -21,7 +23,7 @@ pub loop-i-preserved : goal.loop-i-preserved
 unfolding entry_of
 loop-i-preserved c =
     let i : ℕ = c.loop-i.i in
-    let e = event_at c.args.events.now i in
+    let e = event_in (get_or c.as_chunks.result.0.now i []) in
     let done = c.event-answer.ensures in
     let is : c.copy_from_slice.new.self ≡ entry_of c.loop-i.s e
     = c.copy_from_slice.ensures.after
@@ -29,10 +31,12 @@ loop-i-preserved c =
     ∙ ap (λ (d : Done). entry_bytes d.answer (process_at d.state e.process)) done in
     let four : 4 * i + 4 - 4 * i ≡ 4 = omega arith in
     rw (is, ap (λ (d : Done). d.state) done, four)
-    (next c.loop-i.invariant (omega (arith, c.loop-i-test.true)) (omega (arith, c.loop-i.auto.journal, c.requires.room)))
+    (next c.loop-i.invariant c.loop-i-test.true c.as_chunks.ensures.front_len (omega (arith, c.loop-i.auto.journal, c.requires.room)))
 
 pub returns-clause-state : goal.returns-clause-state
-returns-clause-state c = (finish c.loop-i.invariant c.requires.even c.loop-i-test.false (omega (arith, c.loop-i.auto.i-end))).0
+returns-clause-state c =
+    (finish c.loop-i.invariant c.as_chunks.ensures.front_len c.loop-i-test.false (omega (arith, c.loop-i.auto.i-end))).0
 
 pub returns-clause-journal : goal.returns-clause-journal
-returns-clause-journal c = (finish c.loop-i.invariant c.requires.even c.loop-i-test.false (omega (arith, c.loop-i.auto.i-end))).1
+returns-clause-journal c =
+    (finish c.loop-i.invariant c.as_chunks.ensures.front_len c.loop-i-test.false (omega (arith, c.loop-i.auto.i-end))).1

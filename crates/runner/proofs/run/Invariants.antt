@@ -3,4 +3,4 @@ use Rattle.runner.proofs.Going.{Going}
 use Rattle.runner.proofs.run.Given as goal
 
 abbrev pub invariant-loop-i : goal.invariant-loop-i
-invariant-loop-i l = Going l.events l.fn.journal l.fn.s l.journal l.s l.i
+invariant-loop-i l = Going l.pairs l.events l.fn.journal l.fn.s l.journal l.s l.i
