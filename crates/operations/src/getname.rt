@@ -1,7 +1,7 @@
 // Stage 3: one getname step at a node or at a leaf.
 ghost use Rattle.std.specs.Prelude.{◌≡◌, ◌+◌, ◌*◌, ◌≤◌, ◌<◌, IfSome};
 ghost use Rattle.std.specs.Option.{unwrap_or};
-ghost use Rattle.machine.specs.Getname.{claimed, side, outcome, descend, probe, getname_step};
+ghost use Rattle.machine.specs.Getname.{claimed, side, outcome, descend, probe};
 ghost use Rattle.machine.specs.Refusal.{answered};
 ghost use Rattle.machine.specs.Room.{getname_room, where_room};
 ghost use Rattle.machine.specs.State.{done, figure, process_at};
@@ -60,7 +60,7 @@ fn claim(mut h: Process, step: ClaimStep) -> Process
 
 // At a node below L: bounded_decrement of its counter.
 #[tactic(auto, unfolding(machine::specs::Getname::descend, machine::specs::Operations::bounded_decrement))]
-fn descend(s: &mut State, p: Place) -> Result<(), Refusal>
+pub fn descend(s: &mut State, p: Place) -> Result<(), Refusal>
     requires node { (process_at s.old p).node < 16 }
     ensures { done (answered result) s.new ≡ where_room (getname_room s.old p) (descend s.old p) s.old }
 {
@@ -72,7 +72,7 @@ fn descend(s: &mut State, p: Place) -> Result<(), Refusal>
 
 // At a leaf: set_first_zero on its segment word.
 #[tactic(auto, unfolding(machine::specs::Getname::probe, machine::specs::Operations::set_first_zero))]
-fn probe(s: &mut State, p: Place) -> Result<(), Refusal>
+pub fn probe(s: &mut State, p: Place) -> Result<(), Refusal>
     requires told { Setting s.old.setup (process_at s.old p) }
     requires leaf { s.old.setup.leaves ≤ (process_at s.old p).node }
     ensures { done (answered result) s.new ≡ where_room (getname_room s.old p) (probe s.old p) s.old }
@@ -84,17 +84,4 @@ fn probe(s: &mut State, p: Place) -> Result<(), Refusal>
     let bit = words::set_first_zero(&mut s.words[usize::from(word)], setup.bits, closed);
     s.process[p.index()] = claim(h, outcome_of(setup, word, h.segment, bit));
     Ok(())
-}
-
-// One step: at a node or at a leaf.
-#[tactic(auto, unfolding(machine::specs::Getname::getname_step))]
-pub fn getname_step(s: &mut State, p: Place) -> Result<(), Refusal>
-    requires told { Setting s.old.setup (process_at s.old p) }
-    ensures { done (answered result) s.new ≡ where_room (getname_room s.old p) (getname_step s.old p) s.old }
-{
-    if s.process[p.index()].node < s.setup.leaves {
-        descend(s, p)
-    } else {
-        probe(s, p)
-    }
 }

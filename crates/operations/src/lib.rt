@@ -1,6 +1,7 @@
 // One event, done in place: its refusals in order, then what its kind and the process's stage say. For the crates above; a user calls
-// those. That p is below 64 stays in the clauses: it is the frame's byte, which `event` tests, and a type of its own for it would be taken
-// apart at each index.
+// those. What is told of a process, and that the state is in range, stays in clauses. A struct of the lent state, the place and that fact
+// is refused by the borrow checker where it is taken by value and written through; by `&mut` it is proved, but each method has to say that
+// it still lends that state, a clause for each that goes. A copy of the process's numbers needs a clause that ties it to the state.
 #![tactic(auto)]
 
 mod getname;
@@ -16,8 +17,9 @@ ghost use Rattle.machine.specs.Refusal.{answered};
 ghost use Rattle.machine.specs.State.{done};
 
 use crate::place::Place;
+use fresh::accepted::Accepted;
 use fresh::state;
-use machine::{Kind, Process, Refusal, State, stage};
+use machine::{Kind, NO_NAME, Process, Refusal, State, stage};
 
 // Request (ask), only in the remainder section.
 #[tactic(auto, unfolding(machine::specs::Event::request))]
@@ -35,22 +37,25 @@ fn request(s: &mut State, p: Place) -> Result<(), Refusal>
 }
 
 // Step (turn), never in the remainder section or at work; the stage decides: document 01 wants the match over its number.
-#[tactic(auto, using(crate::proofs::Turns::turns))]
+#[tactic(auto, using(crate::proofs::Turns::turns), unfolding(machine::specs::Getname::getname_step, machine::specs::Putname::putname_step))]
 fn step(s: &mut State, p: Place) -> Result<(), Refusal>
     requires range { in_range s.old ≡ true }
     requires known { p < s.old.setup.processes }
     ensures { done (answered result) s.new ≡ step s.old p }
 {
-    match s.process[p.index()].stage {
-        stage::REMAINDER => Err(Refusal::NotMoving),
+    let h = s.process[p.index()];
+    match h.stage {
+        stage::REMAINDER | stage::WORKING => Err(Refusal::NotMoving),
         stage::ENTRY => gate::enter(s, p.number()),
         stage::WAITING => {
             gate::wait(s, p.number());
             Ok(())
         }
-        stage::GETNAME => getname::getname_step(s, p),
-        stage::WORKING => Err(Refusal::NotMoving),
-        stage::PUTNAME => putname::putname_step(s, p),
+        stage::GETNAME if h.node < s.setup.leaves => getname::descend(s, p),
+        stage::GETNAME => getname::probe(s, p),
+        stage::PUTNAME if h.name != NO_NAME => putname::give_back(s, p),
+        stage::PUTNAME if h.node > 1 => putname::climb(s, p),
+        stage::PUTNAME => gate::leave(s, p.number(), Accepted::of(s.setup).open_names()),
         stage::EXHAUSTED => Ok(()),
         _ => Err(Refusal::BrokenState),
     }

@@ -1,8 +1,8 @@
-// Stage 5: one putname step gives back a bit or a counter, which counts as a return operation, or leaves by the gate.
+// Stage 5: one putname step above the gate gives back a bit or a counter, which counts as a return operation.
 ghost use Rattle.std.specs.Prelude.{◌≡◌, ◌≢◌, ◌<◌};
-ghost use Rattle.machine.specs.Putname.{returned, give_back, climb, putname_step};
+ghost use Rattle.machine.specs.Putname.{returned, give_back, climb};
 ghost use Rattle.machine.specs.Refusal.{answered};
-ghost use Rattle.machine.specs.Room.{has_room, climb_room, putname_room, where_room};
+ghost use Rattle.machine.specs.Room.{has_room, climb_room, where_room};
 ghost use Rattle.machine.specs.State.{done, none, figure, process_at};
 ghost use Rattle.operations.specs.Setting.{Setting};
 
@@ -24,7 +24,7 @@ fn returned(h: Process) -> Process
 
 // With a name: its bit is cleared.
 #[tactic(auto, unfolding(machine::specs::Putname::give_back))]
-fn give_back(s: &mut State, p: Place) -> Result<(), Refusal>
+pub fn give_back(s: &mut State, p: Place) -> Result<(), Refusal>
     requires told { Setting s.old.setup (process_at s.old p) }
     requires named { (process_at s.old p).name ≢ none }
     ensures { done (answered result) s.new ≡ where_room (has_room (process_at s.old p)) (give_back s.old p) s.old }
@@ -39,7 +39,7 @@ fn give_back(s: &mut State, p: Place) -> Result<(), Refusal>
 
 // With no name, above node 1: up to the parent, whose counter rises from a left child.
 #[tactic(auto, unfolding(machine::specs::Putname::climb))]
-fn climb(s: &mut State, p: Place) -> Result<(), Refusal>
+pub fn climb(s: &mut State, p: Place) -> Result<(), Refusal>
     requires told { Setting s.old.setup (process_at s.old p) }
     requires above { 1 < (process_at s.old p).node }
     ensures { done (answered result) s.new ≡ where_room (climb_room s.old p) (climb s.old p) s.old }
@@ -57,20 +57,4 @@ fn climb(s: &mut State, p: Place) -> Result<(), Refusal>
     h.node = parent;
     s.process[p.index()] = h;
     Ok(())
-}
-
-// One step: with a name, above node 1, or at node 1, where the process leaves.
-#[tactic(auto, unfolding(machine::specs::Putname::putname_step))]
-pub fn putname_step(s: &mut State, p: Place) -> Result<(), Refusal>
-    requires told { Setting s.old.setup (process_at s.old p) }
-    ensures { done (answered result) s.new ≡ where_room (putname_room s.old p) (putname_step s.old p) s.old }
-{
-    let h = s.process[p.index()];
-    if h.name != NO_NAME {
-        give_back(s, p)
-    } else if h.node > 1 {
-        climb(s, p)
-    } else {
-        gate::leave(s, p.number(), Accepted::of(s.setup).open_names())
-    }
 }

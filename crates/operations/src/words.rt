@@ -11,7 +11,7 @@ fn first_zero(word: u8, bits: u8, closed: u8) -> Option<u8>
     ensures answer { unwrap_or result bits ≡ first_zero bits closed word }
     ensures below { IfSome result (λ i. i < bits) }
 {
-    let i = u8::trailing_zeros(!(word | closed)) as u8;
+    let i = (!(word | closed)).trailing_zeros() as u8;
     (i < bits).then_some(i)
 }
 
