@@ -26,9 +26,12 @@ use Rattle.machine.specs.declared.Done.{Done}
 use Rattle.machine.specs.declared.Setup.{Setup}
 use Rattle.machine.specs.declared.State.{State}
 
--- the event that stands in a pair of bytes, and the events of the pairs from i on
-abbrev pub event_in : List ℕ → Event
+-- the event that a pair of bytes is, event i of the pairs, and the events from it on
+abbrev event_in : List ℕ → Event
 event_in pair = event_of (get_or pair 0 0) (get_or pair 1 0)
+
+abbrev pub event_at : List (List ℕ) → ℕ → Event
+event_at pairs i = event_in (get_or pairs i [])
 
 abbrev rest : List (List ℕ) → ℕ → List Event
 rest pairs i = map event_in (drop i pairs)
@@ -61,7 +64,7 @@ begin bytes lent s e range =
       entries = ap (λ (es : List Event). journal s es ++ drop (journal_length bytes) lent) all;
     }
 
-rest_step : (pairs : List (List ℕ)) (i : ℕ) → i < length pairs → rest pairs i ≡ event_in (get_or pairs i []) ∷ rest pairs (i + 1)
+rest_step : (pairs : List (List ℕ)) (i : ℕ) → i < length pairs → rest pairs i ≡ event_at pairs i ∷ rest pairs (i + 1)
 rest_step pairs i l = rw add-one (ap (map event_in) (drop-cons pairs i [] l))
 
 -- one entry more, put into its place
@@ -75,32 +78,33 @@ entry_step entry j rest i n four h k =
       drop-put_mid (4 * i) 4 j entry n (omega (arith, k)) (omega (arith, h)) four,
     ) (simp append_assoc)
 
-module _ {pairs : List (List ℕ)} {bytes lent : List ℕ} {s₀ : State} {j : List ℕ} {s : State} {i : ℕ} (g : Going pairs bytes lent s₀ j s i) where
-  -- one event more: its state, and its entry stored
-  pub next : i < length pairs → length pairs ≡ length bytes / 2 → 2 * length bytes ≤ length j
-      → (let e = event_in (get_or pairs i []) in
-      Going pairs bytes lent s₀ (put_mid (4 * i) 4 j (entry_of s e)) (event_done s e).state (i + 1))
-  unfolding after journal
-  next l n room =
-      let e = event_in (get_or pairs i []) in
-      let t = (event_done s e).state in
-      record {
-        range = range_kept s g.range e.kind e.process;
-        state = sym (ap (after s) (rest_step pairs i l)) ∙ g.state;
-        entries = entry_step (entry_of s e) j (journal t (rest pairs (i + 1))) i (journal_length bytes) (entry_length s e)
-            (omega (arith, l, n, room)) (omega (arith, l, n))
-            ∙ sym (ap (λ (es : List Event). take (4 * i) j ++ (journal s es ++ drop (journal_length bytes) j)) (rest_step pairs i l))
-            ∙ g.entries;
-      }
+module _
+    {pairs : List (List ℕ)} {bytes lent : List ℕ} {s₀ : State} {j : List ℕ} {s : State} {i : ℕ} (g : Going pairs bytes lent s₀ j s i)
+  where
+    -- one event more: its state, and its entry stored
+    pub next : i < length pairs → length pairs ≡ length bytes / 2 → 2 * length bytes ≤ length j
+        → Going pairs bytes lent s₀ (put_mid (4 * i) 4 j (entry_of s (event_at pairs i))) (event_done s (event_at pairs i)).state (i + 1)
+    unfolding after journal
+    next l n room =
+        let e = event_at pairs i in
+        let t = (event_done s e).state in
+        record {
+          range = range_kept s g.range e.kind e.process;
+          state = sym (ap (after s) (rest_step pairs i l)) ∙ g.state;
+          entries = entry_step (entry_of s e) j (journal t (rest pairs (i + 1))) i (journal_length bytes) (entry_length s e)
+              (omega (arith, l, n, room)) (omega (arith, l, n))
+              ∙ sym (ap (λ (es : List Event). take (4 * i) j ++ (journal s es ++ drop (journal_length bytes) j)) (rest_step pairs i l))
+              ∙ g.entries;
+        }
 
-  -- at the end of the list
-  pub finish : length pairs ≡ length bytes / 2 → length pairs ≤ i → i ≤ length pairs
-      → (s ≡ after s₀ (events_of bytes)) × (j ≡ written s₀ bytes lent)
-  unfolding after journal
-  finish n h k =
-      let none : drop i pairs ≡ [] = drop_of_length-le pairs h in
-      let size : 4 * i ≡ journal_length bytes = omega (arith, n, h, k) in
-      (rw none at g.state, sym (take-append-drop (journal_length bytes) j) ∙ rw (none, size) at g.entries)
+    -- at the end of the list
+    pub finish : length pairs ≡ length bytes / 2 → length pairs ≤ i → i ≤ length pairs
+        → (s ≡ after s₀ (events_of bytes)) × (j ≡ written s₀ bytes lent)
+    unfolding after journal
+    finish n h k =
+        let none : drop i pairs ≡ [] = drop_of_length-le pairs h in
+        let size : 4 * i ≡ journal_length bytes = omega (arith, n, h, k) in
+        (rw none at g.state, sym (take-append-drop (journal_length bytes) j) ∙ rw (none, size) at g.entries)
 
 -- what an event answers and leaves: an entry that shows its process is a member's, whose figure is a byte
 module _ (s : State) (range : in_range s ≡ true) (k p a : ℕ) (t : State) (is : done a t ≡ event s k p) (shows : shows_none a ≡ false) where

@@ -1,13 +1,11 @@
 -- Each turn of the loop carries out one event and writes its entry; the rest of the list from there is the rest of the run.
 -- Assumes nothing.
-use mathlib.Core.List.{[]}
 use Prim.Native.Nat.{ℕ, ◌+◌, ◌*◌, ◌-◌}
-use lib.ListN.{get_or}
 use Rattle.machine.proofs.Rules.{◌≡◌, ◌∙◌, ap, arith}
 use Rattle.machine.specs.Lists.{entry_bytes, entry_of}
 use Rattle.machine.specs.State.{process_at}
 use Rattle.machine.specs.declared.Done.{Done}
-use Rattle.runner.proofs.Going.{event_in, begin, next, finish, shown}
+use Rattle.runner.proofs.Going.{event_at, begin, next, finish, shown}
 use Rattle.runner.proofs.run.Goals as goal
 
 pub loop-i-init : goal.loop-i-init
@@ -23,7 +21,7 @@ pub loop-i-preserved : goal.loop-i-preserved
 unfolding entry_of
 loop-i-preserved c =
     let i : ℕ = c.loop-i.i in
-    let e = event_in (get_or c.as_chunks.result.0.now i []) in
+    let e = event_at c.as_chunks.result.0.now i in
     let done = c.event-answer.ensures in
     let is : c.copy_from_slice.new.self ≡ entry_of c.loop-i.s e
     = c.copy_from_slice.ensures.after
