@@ -16,7 +16,8 @@ pub const HEAD_SIZE: usize = 27;
 // The bytes that a file has at most.
 pub const LONGEST: usize = 32768;
 
-// Four bytes at a place, low byte first: document 01 gives the layout by places in the file.
+// Four bytes at a place, low byte first: document 01 gives the layout by places in the file, here and in `is_entry`. From u32 to usize there
+// is no From, since a usize may have 16 bits: `as` keeps the number, and the check proves it.
 #[tactic(auto, unfolding(crate::specs::Layout::word))]
 pub fn word(file: &[u8], at: usize) -> u32
     requires { at + 4 ≤ length file.now }
@@ -56,10 +57,5 @@ pub(crate) fn numbers_in(file: &[u8]) -> Result<Numbers, Refusal>
     if !is_entry(file, 5, 1, 23, 4) || !is_entry(file, 14, 2, 27, size) || size % 2 != 0 {
         return Err(Refusal::Contents);
     }
-    Ok(Numbers {
-        processes: file[23],
-        leaves: file[24],
-        segments: file[25],
-        bits: file[26],
-    })
+    Ok(Numbers::from([file[23], file[24], file[25], file[26]]))
 }

@@ -26,8 +26,8 @@ pub fn read_setup(file: &[u8]) -> Result<State, Refusal>
     setup::setup(layout::numbers_in(file)?)
 }
 
-// The events, the caller's own file from byte 27 on and no copy; of a refused file, an empty part of it. The clause `bytes` is what a
-// slice's type says, for whoever knows the file as numbers.
+// The events, the caller's own file from byte 27 on and no copy; of a refused file, an empty part of it: no Option, since document 01 wants
+// that part, and C a place and a size. The clause `bytes` is what a slice's type says, for whoever knows the file as numbers.
 #[tactic(auto, using(crate::proofs::Accepted::has_head, crate::proofs::Accepted::hands))]
 pub fn read_events(file: &[u8]) -> &[u8]
     ensures value { result.now ≡ read_events file.now }

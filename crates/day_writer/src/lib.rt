@@ -27,18 +27,12 @@ fn entry(kind: u8, offset: u32, size: u32) -> [u8; 9]
 fn head(numbers: Numbers, size: u32) -> [u8; HEAD_SIZE]
     ensures { result ≡ head_bytes (plain_of numbers) size }
 {
-    let Numbers {
-        processes,
-        leaves,
-        segments,
-        bits,
-    } = numbers;
     let mut head = [0; HEAD_SIZE];
     head[..4].copy_from_slice(&TURN);
     head[4] = 2;
     head[5..14].copy_from_slice(&entry(1, 23, 4));
     head[14..23].copy_from_slice(&entry(2, 27, size));
-    head[23..].copy_from_slice(&[processes, leaves, segments, bits]);
+    head[23..].copy_from_slice(&<[u8; 4]>::from(numbers));
     head
 }
 

@@ -1,5 +1,5 @@
 // Whether each number of a state is in its range.
-ghost use Rattle.std.specs.Prelude.{◌≡◌, ◌*◌, ◌<◌, ◌≤◌, ◌==◌, length};
+ghost use Rattle.std.specs.Prelude.{◌≡◌, ◌*◌, ◌<◌, ◌≤◌, ◌==◌, MatchResult, false, true, length};
 ghost use Rattle.machine.specs.Below.{all_below};
 ghost use Rattle.machine.specs.Check.{all_of};
 ghost use Rattle.machine.specs.Range.{gate_in_range, place_test, word_test, closed_test, entry_tests, in_range};
@@ -8,7 +8,7 @@ ghost use Rattle.ranges.specs.Tests.{Greatest, past_test};
 use crate::{counters, processes};
 use fresh::accepted::Accepted;
 use fresh::closed;
-use machine::State;
+use machine::{Refusal, State};
 
 // The gate word, -64 to k, the number of open names.
 fn gate_in_range(k: u8, a: i8) -> bool
@@ -113,4 +113,15 @@ pub fn in_range(s: &State) -> bool
         && words_in_range(&s.words, accepted)
         && words_open(&s.words, accepted)
         && processes::processes_in_range(&s.process, accepted)
+}
+
+// Refuses a state that has a number out of its range.
+pub fn check(s: &State) -> Result<(), Refusal>
+    ensures { MatchResult result (λ _. in_range s.now ≡ true) (λ why. (why ≡ Refusal.BrokenState) × (in_range s.now ≡ false)) }
+{
+    if in_range(s) {
+        Ok(())
+    } else {
+        Err(Refusal::BrokenState)
+    }
 }

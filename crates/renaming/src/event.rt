@@ -13,27 +13,31 @@ use ranges::range;
 pub fn event(state: &mut State, kind: u8, process: u8) -> Result<(), Refusal>
     ensures { done (answered result) state.new ≡ Event.event state.old kind process }
 {
-    if !range::in_range(state) {
-        return Err(Refusal::BrokenState);
-    }
+    range::check(state)?;
     operations::event(state, kind, process)
 }
 
 // The three events by name: three calls, since document 01 and C have a call for each.
+#[tactic(auto, unfolding(machine::specs::Event::event))]
 pub fn request(state: &mut State, process: u8) -> Result<(), Refusal>
     ensures { done (answered result) state.new ≡ Event.event state.old Kind·request process }
 {
-    event(state, Kind::Request.into(), process)
+    range::check(state)?;
+    operations::carry_out(state, Kind::Request, process)
 }
 
+#[tactic(auto, unfolding(machine::specs::Event::event))]
 pub fn step(state: &mut State, process: u8) -> Result<(), Refusal>
     ensures { done (answered result) state.new ≡ Event.event state.old Kind·step process }
 {
-    event(state, Kind::Step.into(), process)
+    range::check(state)?;
+    operations::carry_out(state, Kind::Step, process)
 }
 
+#[tactic(auto, unfolding(machine::specs::Event::event))]
 pub fn release(state: &mut State, process: u8) -> Result<(), Refusal>
     ensures { done (answered result) state.new ≡ Event.event state.old Kind·release process }
 {
-    event(state, Kind::Release.into(), process)
+    range::check(state)?;
+    operations::carry_out(state, Kind::Release, process)
 }

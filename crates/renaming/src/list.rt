@@ -19,9 +19,7 @@ pub fn run(state: &mut State, events: &[u8], journal: &mut [u8]) -> Result<(), R
     if journal.len() < 4 * (events.len() / 2) {
         return Err(Refusal::Short);
     }
-    if !range::in_range(state) {
-        return Err(Refusal::BrokenState);
-    }
+    range::check(state)?;
     runner::run(state, events, journal);
     Ok(())
 }

@@ -19,9 +19,7 @@ fn positive_part(a: i8) -> u8
 pub fn gate_report(state: &State) -> Result<GateReport, Refusal>
     ensures { as_report result ≡ gate_report state.now }
 {
-    if !range::in_range(state) {
-        return Err(Refusal::BrokenState);
-    }
+    range::check(state)?;
     Ok(GateReport {
         free: positive_part(state.gate),
         queued: positive_part(-state.gate),

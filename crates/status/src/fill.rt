@@ -13,9 +13,7 @@ pub fn fill_status(state: &State, records: &mut [Status]) -> Result<(), Refusal>
     ensures answer { answered result ≡ status_answer state.now records.old }
     ensures filled { records.new ≡ status_records state.now records.old }
 {
-    if !range::in_range(state) {
-        return Err(Refusal::BrokenState);
-    }
+    range::check(state)?;
     let n = usize::from(state.setup.processes);
     if records.len() < n {
         return Err(Refusal::Short);

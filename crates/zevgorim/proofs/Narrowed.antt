@@ -105,9 +105,11 @@ large_process s kind x k = go (in_range s) refl
         rw (e, le-ltb 255 s.setup.processes (omega (arith, n)), le-ltb x s.setup.processes (omega (arith, n)))
     go false e = rw e
 
+pub process_narrowed : (s : State) (kind p : ℕ) → event s kind (narrow p) ≡ event s kind p
+process_narrowed s kind = narrowed_same (event s kind) (large_process s kind)
+
 pub event_narrowed : (s : State) (kind p : ℕ) → event s (narrow kind) (narrow p) ≡ event s kind p
-event_narrowed s kind p =
-    narrowed_same (λ x. event s x (narrow p)) (large_kind s (narrow p)) kind ∙ narrowed_same (event s kind) (large_process s kind) p
+event_narrowed s kind p = narrowed_same (λ x. event s x (narrow p)) (large_kind s (narrow p)) kind ∙ process_narrowed s kind p
 
 -- what a search is handed of the calls that fill a buffer: what they give, and what they leave
 pub ruleset file_narrowed = (write_narrowed, buffer_narrowed)

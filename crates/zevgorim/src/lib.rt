@@ -1,5 +1,5 @@
-// The calls for C, behind a prefix. A slice is a pointer and its length. C has no Result, so that here alone an answer is a number, beside
-// what the call gave; and C gives the four numbers of a setup one by one.
+// The calls for C, behind a prefix. A slice is a pointer and its length. C has no Result, so that here an answer is a number, beside what
+// the call gave; C gives the four numbers of a setup one by one, and a state by value, so that each call that changes one changes its own.
 #![tactic(auto)]
 
 pub mod files;

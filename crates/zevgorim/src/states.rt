@@ -11,7 +11,7 @@ ghost use Rattle.machine.specs.State.{setup as State·setup, partial_setup};
 use crate::narrow::{narrowed, numbers};
 use fresh::state::blank_state;
 use machine::refusal::answered;
-use machine::{Done, Kind, Report, State};
+use machine::{Done, Report, State};
 use renaming::{event, list, report, setup};
 
 #[unsafe(no_mangle)]
@@ -47,48 +47,61 @@ pub extern "C" fn zevgorim_closed_setup(n: u32, l: u32, g: u32, b: u32, closed: 
 
 #[unsafe(no_mangle)]
 #[tactic(auto, using(crate::proofs::Narrowed::event_narrowed))]
-pub extern "C" fn zevgorim_event(state: State, kind: u32, process: u32) -> Done
+pub extern "C" fn zevgorim_event(mut state: State, kind: u32, process: u32) -> Done
     ensures { result ≡ Event.event state kind process }
 {
-    let mut after = state;
-    let result = event::event(&mut after, narrowed(kind), narrowed(process));
+    let result = event::event(&mut state, narrowed(kind), narrowed(process));
     Done {
-        state: after,
         answer: answered(&result),
+        state,
     }
 }
 
 #[unsafe(no_mangle)]
-pub extern "C" fn zevgorim_request(state: State, process: u32) -> Done
+#[tactic(auto, using(crate::proofs::Narrowed::process_narrowed))]
+pub extern "C" fn zevgorim_request(mut state: State, process: u32) -> Done
     ensures { result ≡ Event.event state Kind·request process }
 {
-    zevgorim_event(state, Kind::Request as u32, process)
+    let result = event::request(&mut state, narrowed(process));
+    Done {
+        answer: answered(&result),
+        state,
+    }
 }
 
 #[unsafe(no_mangle)]
-pub extern "C" fn zevgorim_step(state: State, process: u32) -> Done
+#[tactic(auto, using(crate::proofs::Narrowed::process_narrowed))]
+pub extern "C" fn zevgorim_step(mut state: State, process: u32) -> Done
     ensures { result ≡ Event.event state Kind·step process }
 {
-    zevgorim_event(state, Kind::Step as u32, process)
+    let result = event::step(&mut state, narrowed(process));
+    Done {
+        answer: answered(&result),
+        state,
+    }
 }
 
 #[unsafe(no_mangle)]
-pub extern "C" fn zevgorim_release(state: State, process: u32) -> Done
+#[tactic(auto, using(crate::proofs::Narrowed::process_narrowed))]
+pub extern "C" fn zevgorim_release(mut state: State, process: u32) -> Done
     ensures { result ≡ Event.event state Kind·release process }
 {
-    zevgorim_event(state, Kind::Release as u32, process)
+    let result = event::release(&mut state, narrowed(process));
+    Done {
+        answer: answered(&result),
+        state,
+    }
 }
 
 #[unsafe(no_mangle)]
-pub extern "C" fn zevgorim_run(state: State, events: &[u8], journal: &mut [u8]) -> Done
+pub extern "C" fn zevgorim_run(mut state: State, events: &[u8], journal: &mut [u8]) -> Done
     ensures done { result ≡ Lists.run state events.now journal.old }
     ensures journal { journal.new ≡ Lists.run_journal state events.now journal.old }
 {
-    let mut after = state;
-    let result = list::run(&mut after, events, journal);
+    let result = list::run(&mut state, events, journal);
     Done {
-        state: after,
         answer: answered(&result),
+        state,
     }
 }
 

@@ -12,5 +12,6 @@ returns c =
     let first : c.copy_from_slice-2.new.self ≡ entry_bytes setup_entry = c.copy_from_slice-2.ensures.after ∙ c.entry.ensures in
     let second : c.copy_from_slice-3.new.self ≡ entry_bytes (events_entry c.args.size)
     = c.copy_from_slice-3.ensures.after ∙ c.entry-2.ensures in
-    let numbers : c.copy_from_slice-4.new.self ≡ setup_bytes (plain_of c.args.numbers) = c.copy_from_slice-4.ensures.after in
+    let numbers : c.copy_from_slice-4.new.self ≡ setup_bytes (plain_of c.args.numbers)
+    = c.copy_from_slice-4.ensures.after ∙ c.from.ensures in
     rw (letters, first, second, numbers)

@@ -12,18 +12,18 @@ loop-i-init c = refl
 
 pub bounds-state-i : goal.bounds-state-i
 bounds-state-i c =
-    omega (arith, (ranges_of c.args.state.now (sym c.in_range.ensures ∙ c.if-not-in_range.false)).limits.n64, c.loop-i-test.true)
+    omega (arith, (ranges_of c.args.state.now c.in_ok-check.ensures).limits.n64, c.loop-i-test.true)
 
 pub figure-requires : goal.figure-requires
 figure-requires c =
-    let k = ranges_of c.args.state.now (sym c.in_range.ensures ∙ c.if-not-in_range.false) in
+    let k = ranges_of c.args.state.now c.in_ok-check.ensures in
     (k.process c.loop-i.i (omega (arith, c.loop-i-test.true))).shown
 
 pub loop-i-preserved : goal.loop-i-preserved
 loop-i-preserved c =
     let s = c.args.state.now in
     let i : ℕ = c.loop-i.i in
-    let n64 = (ranges_of s (sym c.in_range.ensures ∙ c.if-not-in_range.false)).limits.n64 in
+    let n64 = (ranges_of s c.in_ok-check.ensures).limits.n64 in
     rw (c.figure.ensures, c.loop-i.invariant, add-one i)
     (written_more status_of s.process no_process i c.args.records.now (search (rules, n64, c.loop-i-test.true))
     (omega (arith, c.loop-i-test.true)))
@@ -32,7 +32,7 @@ pub returns-clause-filled : goal.returns-clause-filled
 unfolding status_records
 returns-clause-filled c =
     let s = c.args.state.now in
-    let in_range = sym c.in_range.ensures ∙ c.if-not-in_range.false in
+    let in_range = c.in_ok-check.ensures in
     let all : c.loop-i.i ≡ s.setup.processes = omega (arith, c.from-n.ensures, c.loop-i-test.false, c.loop-i.auto.i-end) in
     rw (in_range, le-leb s.setup.processes (length c.args.records.now) (omega (arith, c.from-n.ensures, c.if-records-n.false)), ← all)
     c.loop-i.invariant
