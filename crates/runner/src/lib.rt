@@ -11,6 +11,7 @@ use machine::State;
 
 // The events of a list, on a state in range. A byte left over is no event. An entry is stored by index, since of what a write through
 // `as_chunks_mut` leaves its contract says nothing.
+#[tactic(auto, using(crate::proofs::Going::finish))]
 pub fn run(s: &mut State, events: &[u8], journal: &mut [u8])
     requires range { in_range s.old ≡ true }
     requires room { 2 * length events.now ≤ length journal.old }

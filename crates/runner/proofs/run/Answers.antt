@@ -5,14 +5,11 @@ use Rattle.machine.proofs.Rules.{◌≡◌, ◌∙◌, ap, arith}
 use Rattle.machine.specs.Lists.{entry_bytes, entry_of}
 use Rattle.machine.specs.State.{process_at}
 use Rattle.machine.specs.declared.Done.{Done}
-use Rattle.runner.proofs.Going.{event_at, begin, next, finish, shown}
+use Rattle.runner.proofs.Going.{event_at, begin, next, shown}
 use Rattle.runner.proofs.run.Goals as goal
 
 pub loop-i-init : goal.loop-i-init
 loop-i-init c = begin c.args.events.now c.args.journal.now c.args.s.now c.as_chunks.ensures.front c.requires.range
-
-pub event-answer-requires : goal.event-answer-requires
-event-answer-requires c = c.loop-i.invariant.range
 
 pub entry-requires : goal.entry-requires
 entry-requires c shows = shown _ c.loop-i.invariant.range _ _ _ _ c.event-answer.ensures shows
@@ -30,11 +27,3 @@ loop-i-preserved c =
     let four : 4 * i + 4 - 4 * i ≡ 4 = omega arith in
     rw (is, ap (λ (d : Done). d.state) done, four)
     (next c.loop-i.invariant c.loop-i-test.true c.as_chunks.ensures.front_len (omega (arith, c.loop-i.auto.journal, c.requires.room)))
-
-pub returns-clause-state : goal.returns-clause-state
-returns-clause-state c =
-    (finish c.loop-i.invariant c.as_chunks.ensures.front_len c.loop-i-test.false (omega (arith, c.loop-i.auto.i-end))).0
-
-pub returns-clause-journal : goal.returns-clause-journal
-returns-clause-journal c =
-    (finish c.loop-i.invariant c.as_chunks.ensures.front_len c.loop-i-test.false (omega (arith, c.loop-i.auto.i-end))).1
