@@ -4,19 +4,15 @@ use Rattle.std.specs.Prelude.{◌≡◌, List, ℕ, take, Result}
 use contract.Lifetimes.{Lfts}
 use Rattle.std.specs.Borrow.{Bor, MutBor}
 use Rattle.machine.specs.Outcome.{as_done, as_written}
+use Rattle.machine.specs.Setup.{four}
 use Rattle.machine.specs.State.{blank}
 use Rattle.machine.specs.declared.Done.{Done}
 use Rattle.machine.specs.declared.State.{State}
 use Rattle.machine.specs.declared.Written.{Written}
-use Rattle.machine.specs.declared.numbers.Numbers.{Numbers}
 use Rattle.machine.specs.declared.refusal.Refusal.{Refusal}
 use Rattle.day_file.proofs.reader.read_setup.Reads as read-setup-reads
 use Rattle.day_file.proofs.reader.read_events.Reads as read-events-reads
 use Rattle.day_writer.proofs.write_file.Reads as write-file-reads
-
--- the four numbers of a setup, as a call takes them
-abbrev pub four : ℕ → ℕ → ℕ → ℕ → Numbers
-four n l g b = record { processes = n; leaves = l; segments = g; bits = b }
 
 -- `write_file(numbers, events, out)`: the references that it was lent, what it gave, and the references after it. What it gave is its
 -- result, with the size 0 for a refused one.

@@ -8,12 +8,11 @@ use Rattle.machine.specs.Kind.{request, step, release}
 use Rattle.machine.specs.Lists.{Event, event_of, event_done, events_of, entry_bytes}
 use Rattle.machine.specs.Outcome.{as_done}
 use Rattle.machine.specs.Refusal.{answered}
-use Rattle.machine.specs.Setup.{given, plain}
+use Rattle.machine.specs.Setup.{four, given, plain}
 use Rattle.machine.specs.State.{done, blank, process_at}
 use Rattle.machine.specs.declared.Done.{Done}
 use Rattle.machine.specs.declared.Setup.{Setup}
 use Rattle.machine.specs.declared.State.{State}
-use Rattle.machine.specs.declared.numbers.Numbers.{Numbers}
 use Rattle.machine.specs.declared.refusal.Refusal.{Refusal}
 use Rattle.renaming.proofs.setup.setup.Reads as setup-reads
 use Rattle.renaming.proofs.setup.partial_setup.Reads as partial-setup-reads
@@ -23,10 +22,6 @@ use Rattle.renaming.proofs.event.request.Reads as request-reads
 use Rattle.renaming.proofs.event.step.Reads as step-reads
 use Rattle.renaming.proofs.event.release.Reads as release-reads
 use Rattle.renaming.proofs.list.run.Reads as run-reads
-
--- the four numbers of a setup, as a call takes them
-abbrev pub four : ℕ → ℕ → ℕ → ℕ → Numbers
-four n l g b = record { processes = n; leaves = l; segments = g; bits = b }
 
 -- `setup(numbers)` gave d: its result, with the blank state for a refused one
 pub record SetUp (n l g b : ℕ) (d : Done) : Type 0 where

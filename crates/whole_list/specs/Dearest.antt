@@ -6,7 +6,7 @@ use Rattle.std.specs.Borrow.{MutBor}
 use Rattle.machine.specs.Answer.{small_buffer}
 use Rattle.machine.specs.Lists.{Event}
 use Rattle.machine.specs.Outcome.{as_dearest}
-use Rattle.machine.specs.Setup.{plain}
+use Rattle.machine.specs.Setup.{four, plain}
 use Rattle.machine.specs.Stage.{working}
 use Rattle.machine.specs.State.{process_at}
 use Rattle.machine.specs.declared.DearestList.{DearestList}
@@ -17,7 +17,7 @@ use Rattle.machine.specs.declared.outcome.Dearest.{Dearest}
 use Rattle.machine.specs.declared.refusal.Refusal.{Refusal}
 use Rattle.dearest_claim.specs.Dearest.{dearest_of, dearest_figure}
 use Rattle.dearest.proofs.dearest_list.Reads as dearest-list-reads
-use Rattle.whole_list.specs.Calls.{SetUp, ListCall, Calls, four}
+use Rattle.whole_list.specs.Calls.{SetUp, ListCall, Calls}
 
 -- `dearest_list(numbers, out)` gave r, the figures 0 for a refused one, and left out'
 pub record Wrote (κs : Lfts 1) (n l g b : ℕ) (out : MutBor (List ℕ)) (r : DearestList) (out' : MutBor (List ℕ)) : Type 0 where
