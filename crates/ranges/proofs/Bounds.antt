@@ -1,23 +1,21 @@
--- The greatest of the first numbers of a list, and the bits of those past them, are found place by place and decide the
--- tests of the queue and of the words: by comparing at each place.
+-- The greatest of the first numbers of a list is found place by place, and decides the tests of the queue and of the words: by comparing
+-- at each place.
 --     one_number, of_front     the greatest, one place more, and of a front
---     or-none, bits_more                the bits, one place more
 --     entry_out, past_decides           the queue
 --     words_decide                      the words
 -- Assumes nothing.
 use Rattle.std.proofs.Common.{ℕ, ◌+◌, ◌*◌, ◌%◌, ◌^◌, ◌<◌, ◌≤◌, max, eqb, ltb, List, length, take, get_or, length-take, sym, le_refl}
-use Rattle.std.proofs.Common.{eq-or-lt_of_le, add-one, pow_pos}
+use Rattle.std.proofs.Common.{eq-or-lt_of_le, pow_pos}
 use Rattle.std.proofs.lemmas.List.{get_or-take}
 use native.Mathlib.Decide.{dec_lt}
-use lib.Bits.{bit_or, or_add_and, and_le_l, and_le_r}
 use lib.Pow.{shl_exact}
-use Rattle.machine.proofs.Rules.{◌≡◌, ◌∙◌, refl, cond, false, Bool, ◌||◌, true, ◌&&◌, ⊎_elim, inl, inr}
-use Rattle.machine.proofs.Rules.{arith, eq-eqb, ne_eqb, eqb-true, lt-ltb, le-ltb, ltb-true}
+use Rattle.machine.proofs.Rules.{◌≡◌, ◌∙◌, refl, cond, false, Bool, ◌||◌, true, ⊎_elim, inl, inr}
+use Rattle.machine.proofs.Rules.{arith, ne_eqb, lt-ltb, le-ltb, ltb-true}
 use Rattle.machine.specs.Below.{all_below}
 use Rattle.machine.specs.Range.{place_test, word_test}
 use Rattle.machine.specs.declared.Setup.{Setup}
 use Rattle.machine.proofs.Facts.Below.{all_in, all_at, all_fails, all_same}
-use Rattle.machine.proofs.Facts.Tests.{by_cond, both, and_left, and_right, same_test}
+use Rattle.machine.proofs.Facts.Tests.{by_cond, same_test}
 use Rattle.ranges.specs.Tests.{Greatest, past_test}
 
 module _ {xs : List ℕ} where
@@ -60,24 +58,6 @@ module _ {xs : List ℕ} where
       (λ q. absurd (z q))
       (λ w. all_fails n f w.0 (omega (arith, w.1.0)) (h w.0 w.1.0 w.1.1))
       g.met
-
--- bits are 0 where those of both are
-pub or-none : (a b : ℕ) → eqb (bit_or a b) 0 ≡ (eqb b 0 && eqb a 0)
-or-none a b =
-    same_test
-    (eqb (bit_or a b) 0)
-    (eqb b 0 && eqb a 0)
-    (λ e. both
-    (eq-eqb b 0 (omega (arith, or_add_and a b, and_le_l a b, eqb-true (bit_or a b) 0 e)))
-    (eq-eqb a 0 (omega (arith, or_add_and a b, and_le_r a b, eqb-true (bit_or a b) 0 e))))
-    (λ e. eq-eqb
-    (bit_or a b)
-    0
-    (omega (arith, or_add_and a b, eqb-true b 0 (and_left (eqb b 0) (eqb a 0) e), eqb-true a 0 (and_right (eqb b 0) (eqb a 0) e))))
-
-pub bits_more : (f : ℕ → Bool) (i b x : ℕ) → eqb b 0 ≡ all_below i f → eqb x 0 ≡ f i → eqb (bit_or b x) 0 ≡ all_below (i + 1) f
-unfolding all_below
-bits_more f i b x p h = rw (add-one, or-none b x, p, h)
 
 -- the queue q of m entries below n
 module _ (q : List ℕ) (m n : ℕ) where

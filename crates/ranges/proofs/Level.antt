@@ -2,10 +2,10 @@
 --     node_test        the test of a node's counter
 --     level_test_lem      that of a counter of a level
 --     doubled_le, depth_4    the levels of L leaves
-use Rattle.std.proofs.Common.{ℕ, ◌+◌, ◌-◌, ◌*◌, ◌/◌, ◌%◌, ◌^◌, ◌<◌, ◌≤◌, eqb, leb, ltb, List, get_or, add-mul, mul-le-mul_left, mul-add}
-use Rattle.std.proofs.Common.{div-mul-le_self, div-one, add-one, pow_pos, pow_mono, shr-shr}
-use native.Mathlib.Decide.{dec_lt}
-use native.Mathlib.Nat.{pow-succ'}
+use Rattle.std.proofs.Common.{ℕ, zero, suc, ◌+◌, ◌-◌, ◌*◌, ◌/◌, ◌%◌, ◌^◌, ◌<◌, ◌≤◌, eqb, leb, ltb, List, get_or, mul-le-mul_left, mul-add}
+use Rattle.std.proofs.Common.{div-mul-le_self, div-one, add-one, pow_pos, pow_mono}
+use native.Mathlib.Decide.{ℕ_discrete, dec_lt}
+use native.Mathlib.Nat.{pow-succ', mul-zero, mul_comm}
 use lib.Count.{ones}
 use Rattle.machine.proofs.Rules.{◌≡◌, ◌∙◌, sym, ap, refl, Bool, true, cond, not, ◌&&◌, ◌||◌}
 use Rattle.machine.proofs.Rules.{arith, eqb-true, ne_eqb, leb-true, lt-leb, le-leb, lt-ltb}
@@ -14,7 +14,7 @@ use Rattle.machine.specs.Range.{counter_test}
 use Rattle.machine.specs.Setup.{names, is_leaves, log2}
 use Rattle.machine.specs.State.{depth, fresh_counter}
 use Rattle.machine.specs.declared.Setup.{Setup}
-use Rattle.machine.proofs.Facts.Below.{all_at}
+use Rattle.machine.proofs.Facts.Below.{all_at, all_parts}
 use Rattle.machine.proofs.Facts.Leaves.{by_leaves}
 use Rattle.machine.proofs.Ranges.{Limits}
 use Rattle.fresh.specs.Counts.{closed_in}
@@ -72,14 +72,31 @@ module _ (closed n i : ℕ) where
   unfolding closed_in
   left_closed {rest} e = ap (λ (x : ℕ). ones (x % 2 ^ n)) (div-one rest ∙ e)
 
-  pub left_next : {rest : ℕ} → rest ≡ closed / 2 ^ (2 * i * n) → rest / 2 ^ n / 2 ^ n ≡ closed / 2 ^ (2 * (i + 1) * n)
-  left_next {rest} e =
-      let far : 2 * i * n + n + n ≡ 2 * (i + 1) * n
-      = omega (arith, add-mul (2 * i) 2 n, ap (λ (x : ℕ). x * n) (mul-add 2 i 1)) in
-      ap (λ (x : ℕ). x / 2 ^ n / 2 ^ n) e
-      ∙ ap (λ (x : ℕ). x / 2 ^ n) (shr-shr closed (2 * i * n) n)
-      ∙ shr-shr closed (2 * i * n + n) n
-      ∙ ap (λ (x : ℕ). closed / 2 ^ x) far
+-- the first name under node i of a level, where each of its nodes has n under it on either side
+pub first_64 : (k d i : ℕ) → k ≤ 64 → i < 2 ^ d → 2 * i * (k / 2 ^ (d + 1)) < 64
+first_64 k d i k64 l = go (ℕ_discrete n 0)
+  where
+    n : ℕ
+    n = k / 2 ^ (d + 1)
+
+    after : n * (2 * i + 2) ≤ 64
+    after =
+        let inside : 2 * i + 2 ≤ 2 ^ (d + 1) = omega (arith, ap (λ (x : ℕ). 2 ^ x) (add-one d), pow-succ' 2 d, l) in
+        omega (arith, mul-le-mul_left n inside, div-mul-le_self k (2 ^ (d + 1)), k64)
+
+    go : Dec (n ≡ 0) → 2 * i * n < 64
+    go (yes z) = omega (arith, ap (λ (x : ℕ). 2 * i * x) z, mul-zero (2 * i))
+    go (no z) = omega (arith, z, after, mul-add n (2 * i) 2, mul_comm n (2 * i))
+
+-- the nodes of the levels below h, and the root's parent, which is none
+pub levels : (h : ℕ) (f : ℕ → Bool) → f 0 ≡ true
+    → all_below h (λ d. all_below (2 ^ d) (λ i. f (2 ^ d + i))) ≡ all_below (2 ^ h) f
+unfolding all_below
+levels zero f e = sym (ap (λ (t : Bool). t && true) e)
+levels (suc h) f e =
+    let twice : 2 ^ suc h ≡ 2 ^ h + 2 ^ h = omega (arith, pow-succ' 2 h) in
+    ap (λ (t : Bool). all_below (2 ^ h) (λ i. f (2 ^ h + i)) && t) (levels h f e)
+    ∙ sym (ap (λ (n : ℕ). all_below n f) twice ∙ all_parts (2 ^ h) (2 ^ h) f)
 
 -- twice a power of 2 that is below L is at most L
 doubles_in : ℕ → Bool

@@ -1,6 +1,6 @@
 -- What the functions' proofs share.
 pub mod Bounds
 pub mod Level
-pub mod Ranks
+pub mod Lists
 pub mod Shut
 pub mod Verdict

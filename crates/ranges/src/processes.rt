@@ -1,97 +1,45 @@
-// The processes of a state. The loops stop nowhere, so that the compiler takes many numbers at once.
-ghost use Rattle.std.specs.Prelude.{◌≡◌, ℕ, ◌+◌, ◌-◌, ◌*◌, ◌%◌, ◌^◌, ◌<◌, ◌≤◌, ◌&&◌, ◌==◌, nat_le, nat_lt, length, get_or};
+// The processes of a state.
+ghost use Rattle.std.specs.Prelude.{◌≡◌, ◌%◌, ◌==◌, get_or};
 ghost use Rattle.machine.specs.Below.{all_below};
 ghost use Rattle.machine.specs.Operations.{bit};
-ghost use Rattle.machine.specs.Range.{process_test};
+ghost use Rattle.machine.specs.Range.{name_test, process_test};
 ghost use Rattle.machine.specs.State.{no_process};
-ghost use Rattle.ranges.specs.Tests.{ranked, name_limit, shut_test};
 
-use crate::counters;
 use fresh::accepted::Accepted;
-use fresh::closed;
-use machine::{Process, stage};
+use machine::{NO_NAME, Process, stage};
 
-// A node less 1, and 255 for node 0.
-fn node_rank(v: u8) -> u8
-    ensures { (l : ℕ) → 1 ≤ l → l ≤ 16 → nat_le result (2 * l - 2) ≡ (nat_le 1 v && nat_lt v (2 * l)) }
+// Is name m of 64 open?
+fn is_open(closed: u64, m: u8) -> bool
+    ensures { result ≡ (bit closed (m % 64) == 0) }
 {
-    v.wrapping_sub(1)
+    (closed >> (m % 64)) % 2 == 0
 }
 
-// A name more 1, and 0 for none.
-fn name_rank(m: u8) -> u8
-    ensures { (result ≡ (m + 1) % 256) × (m ≤ 255) }
-{
-    m.wrapping_add(1)
-}
-
-// 0 where the sum of steps and returns is a byte, otherwise 1.
-fn sum_over(steps: u8, returns: u8) -> u8
-    ensures { (result == 0) ≡ nat_le (steps + returns) 255 }
-{
-    counters::is_over(returns, 255 - steps)
-}
-
-// One more than the greatest name that may be open: k, or 63 where name 63 is closed.
-fn name_limit(accepted: Accepted) -> u8
-    ensures { result ≡ name_limit accepted }
-{
-    if accepted.setup().closed >> 63 == 0 {
-        accepted.names()
-    } else {
-        63
-    }
-}
-
-// 1 where a name below 63 is closed, and 0 where it is open. No name, 255, is looked up as name 63, which the limit settles.
-fn shut_bit(closed: u64, m: u8) -> u64
-    ensures { result ≡ bit (closed % 2 ^ 63) (m % 64) }
-{
-    (closed::lowest(closed, 63) >> (m % 64)) % 2
-}
-
-// Has no process a closed name below 63?
-fn names_open(process: &[Process], closed: u64) -> bool
-    ensures { result ≡ all_below (length process.now) (λ p. shut_test closed (get_or process.now p no_process).name) }
-{
-    let mut shut = 0;
-    for p in process {
-        shut |= shut_bit(closed, p.name);
-    }
-    shut == 0
-}
-
-// Is each number of each process in its range, but for closed names below 63? The greatest of each is compared, a node less 1 and a name
-// more 1, so that node 0 is the greatest and no name the least.
-fn numbers_in_range(process: &[Process], accepted: Accepted) -> bool
-    ensures tests { result ≡ all_below (length process.now) (λ p. ranked accepted (get_or process.now p no_process)) }
-    ensures bytes { (p : ℕ) → p < length process.now → (get_or process.now p no_process).name ≤ 255 }
+// No name, or an open one below k.
+fn name_in_range(p: &Process, accepted: Accepted) -> bool
+    ensures { result ≡ name_test accepted p.now.name }
 {
     let setup = accepted.setup();
-    let mut stage = 0u8;
-    let mut node = 0u8;
-    let mut segment = 0u8;
-    let mut name = 0u8;
-    let mut over = 0;
-    for p in process {
-        stage = stage.max(p.stage);
-        node = node.max(node_rank(p.node));
-        segment = segment.max(p.segment);
-        name = name.max(name_rank(p.name));
-        over |= sum_over(p.steps, p.returns);
-    }
-    stage <= stage::EXHAUSTED
-        && node <= 2 * setup.leaves - 2
-        && segment < setup.segments
-        && name <= name_limit(accepted)
-        && over == 0
+    p.name == NO_NAME || (p.name < accepted.names() && is_open(setup.closed, p.name))
 }
 
-// Is each of the processes in use in its ranges? With none closed no name is looked up.
+// Is each number of a process in its range?
+fn process_in_range(p: &Process, accepted: Accepted) -> bool
+    ensures { result ≡ process_test accepted p.now }
+{
+    let setup = accepted.setup();
+    p.stage <= stage::EXHAUSTED
+        && (1..2 * setup.leaves).contains(&p.node)
+        && p.segment < setup.segments
+        && name_in_range(p, accepted)
+        && p.steps.checked_add(p.returns).is_some()
+}
+
+// Is each of the processes in use in its ranges?
 pub(crate) fn processes_in_range(process: &[Process; 64], accepted: Accepted) -> bool
     ensures { result ≡ all_below accepted.processes (λ p. process_test accepted (get_or process.now p no_process)) }
 {
-    let setup = accepted.setup();
-    let used = &process[..setup.processes as usize];
-    (setup.closed == 0 || names_open(used, setup.closed)) && numbers_in_range(used, accepted)
+    process[..usize::from(accepted.setup().processes)]
+        .iter()
+        .all(|p| process_in_range(p, accepted))
 }

@@ -1,5 +1,6 @@
-// Whether each number of a state is in its range.
-ghost use Rattle.std.specs.Prelude.{◌≡◌, ◌*◌, ◌<◌, ◌≤◌, ◌==◌, MatchResult, false, true, length};
+// Whether each number of a state is in its range. `as` stands where a number is narrowed: the check proves that nothing is cut, and
+// `try_from` would add a case that cannot happen.
+ghost use Rattle.std.specs.Prelude.{◌≡◌, ◌*◌, ◌<◌, ◌≤◌, MatchResult, false, true, length};
 ghost use Rattle.machine.specs.Below.{all_below};
 ghost use Rattle.machine.specs.Check.{all_of};
 ghost use Rattle.machine.specs.Range.{gate_in_range, place_test, word_test, closed_test, entry_tests, in_range};
@@ -7,7 +8,6 @@ ghost use Rattle.ranges.specs.Tests.{Greatest, past_test};
 
 use crate::{counters, processes};
 use fresh::accepted::Accepted;
-use fresh::closed;
 use machine::{Refusal, State};
 
 // The gate word, -64 to k, the number of open names.
@@ -18,39 +18,22 @@ fn gate_in_range(k: u8, a: i8) -> bool
     (-64..=k as i8).contains(&a)
 }
 
-// The greatest of numbers; 0 of none. It stops nowhere, so that the compiler takes many at once.
+// The greatest of numbers; 0 of none. A fold from 0: `max` takes the first number apart, and an event of light then takes 1,106 instructions
+// in place of 1,081.
 fn greatest(xs: &[u8]) -> u8
     ensures { Greatest xs.now (length xs.now) result }
 {
-    let mut top = 0u8;
-    for &x in xs {
-        top = top.max(x);
-    }
-    top
+    xs.iter().fold(0, |top, &x| top.max(x))
 }
 
-// The places of a queue, each its own number: as bytes they are compared many at once, and a loop's index is not.
-const PLACES: [u8; 64] = [
-    0, 1, 2, 3, 4, 5, 6, 7, 8, 9, 10, 11, 12, 13, 14, 15, 16, 17, 18, 19, 20, 21, 22, 23, 24, 25,
-    26, 27, 28, 29, 30, 31, 32, 33, 34, 35, 36, 37, 38, 39, 40, 41, 42, 43, 44, 45, 46, 47, 48, 49,
-    50, 51, 52, 53, 54, 55, 56, 57, 58, 59, 60, 61, 62, 63,
-];
-
-// The bits of all the numbers from place m on, which are 0 where each is 0. It stops nowhere, as above, and reads each number, whatever m
-// is: a read behind the test would be one at a time.
-fn bits_past(xs: &[u8; 64], m: u8) -> u8
-    ensures { (result == 0) ≡ all_below 64 (past_test m xs.now) }
+// Are all the numbers from place m on 0? The fold stops nowhere, and `|` reads each number, whatever m is, so that the compiler takes many
+// at once.
+fn is_zero_from(xs: &[u8; 64], m: u8) -> bool
+    ensures { result ≡ all_below 64 (past_test m xs.now) }
 {
-    let places = PLACES;
-    let mut bits = 0;
-    for i in 0..64 {
-        let mut x = xs[i];
-        if places[i] < m {
-            x = 0;
-        }
-        bits |= x;
-    }
-    bits
+    xs.iter()
+        .zip(0u8..64)
+        .fold(true, |zero, (&x, i)| zero & ((i < m) | (x == 0)))
 }
 
 // The first m numbers of the queue are below n, the others 0, and so below n too: the greatest is looked for among all.
@@ -58,7 +41,7 @@ fn queue_in_range(queue: &[u8; 64], m: u8, n: u8) -> bool
     requires { 1 ≤ n }
     ensures { result ≡ all_below 64 (place_test n m queue.now) }
 {
-    greatest(queue) < n && bits_past(queue, m) == 0
+    greatest(queue) < n && is_zero_from(queue, m)
 }
 
 // The segment words in use, each of b bits.
@@ -66,8 +49,16 @@ fn words_in_range(words: &[u8; 64], accepted: Accepted) -> bool
     ensures { result ≡ all_below (accepted.leaves * accepted.segments) (word_test accepted words.now) }
 {
     let setup = accepted.setup();
-    let used = &words[..(setup.leaves * setup.segments) as usize];
+    let used = &words[..usize::from(setup.leaves * setup.segments)];
     u16::from(greatest(used)) < 1u16 << setup.bits
+}
+
+// Has segment word r no closed bit set?
+fn word_open(words: &[u8; 64], accepted: Accepted, r: u8) -> bool
+    requires { (r < 64) × (r < accepted.leaves * accepted.segments) }
+    ensures { result ≡ closed_test accepted words.now r }
+{
+    words[usize::from(r)] & accepted.closed_word(r) == 0
 }
 
 // The segment words in use have no closed bit set.
@@ -75,18 +66,11 @@ fn words_open(words: &[u8; 64], accepted: Accepted) -> bool
     ensures { result ≡ all_below (accepted.leaves * accepted.segments) (closed_test accepted words.now) }
 {
     let setup = accepted.setup();
-    if setup.closed == 0 {
-        return true;
-    }
-    let used = setup.leaves * setup.segments;
-    let mut rest = setup.closed;
-    let mut bits = 0;
-    for r in 0..used {
-        let shut = closed::lowest(rest, setup.bits) as u8;
-        bits |= words[r as usize] & shut;
-        rest >>= setup.bits;
-    }
-    bits == 0
+    setup.closed == 0
+        || (0..setup.leaves * setup.segments).fold(
+            true,
+            |open, r| open & word_open(words, accepted, r),
+        )
 }
 
 // The gate word and its queue of 0 to 64.

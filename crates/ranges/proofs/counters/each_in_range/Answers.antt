@@ -1,19 +1,20 @@
--- A counter that fails fails all; past the loop each has passed.
-use Rattle.std.proofs.Common.{◌∙◌, ◌<◌, ◌≤◌, sym, arith}
-use Rattle.machine.proofs.Facts.Below.{all_in, all_fails}
+-- The test of every node is that of the nodes below L, and the others pass.
+use Rattle.std.proofs.Common.{◌∙◌, ◌≤◌, ℕ, leb, rules, tests}
+use Rattle.std.proofs.lemmas.Iterator.{YieldsList-from_range}
+use Rattle.std.proofs.lemmas.Iterator.Search.{all_from_yields_List}
 use Rattle.machine.proofs.Ranges.{limits_of}
+use Rattle.machine.proofs.Rules.{◌||◌}
 use Rattle.fresh.proofs.Sizes.{leaves_16}
 use Rattle.ranges.proofs.Level.{node_test}
+use Rattle.ranges.proofs.Lists.{numbers_below, padded}
 use Rattle.ranges.proofs.counters.each_in_range.Goals as goal
-
-pub returns-then-not-counter_in_range : goal.returns-then-not-counter_in_range
-returns-then-not-counter_in_range c =
-    let used : c.loop-v.v < c.args.accepted.leaves = rw c.setup-leaves.ensures.value at c.if-v-leaves.true in
-    sym (all_fails c.args.accepted.leaves (node_test c.args.accepted c.args.counters.now) c.loop-v.v used
-    (sym c.counter_in_range.ensures ∙ c.if-not-counter_in_range.true))
 
 pub returns : goal.returns
 returns c =
-    let few : c.args.accepted.leaves ≤ 16 = rw c.setup-leaves.ensures.value at (leaves_16 (limits_of _ c.setup-leaves.ensures.accepted)) in
-    sym (all_in c.args.accepted.leaves (node_test c.args.accepted c.args.counters.now)
-    (λ u h. c.loop-v.invariant u (omega arith) (rw c.setup-leaves.ensures.value h)))
+    let s = c.args.accepted in
+    let few : s.leaves ≤ 16 = rw c.setup-leaves.ensures.value at (leaves_16 (limits_of _ c.setup-leaves.ensures.accepted)) in
+    let test = (λ (v : ℕ). leb s.leaves v || node_test s c.args.counters.now v) in
+    all_from_yields_List test _ _ _ c.all.ensures.ran (YieldsList-from_range 0 16 16 (search rules) (search rules))
+    (λ v t f k. search (rules, tests))
+    ∙ numbers_below test 16
+    ∙ padded s.leaves 16 (node_test s c.args.counters.now) few

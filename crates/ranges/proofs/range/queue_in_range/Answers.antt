@@ -6,7 +6,7 @@ use Rattle.ranges.proofs.range.queue_in_range.Goals as goal
 
 pub returns-then-greatest-n : goal.returns-then-greatest-n
 returns-then-greatest-n c =
-    c.bits_past.ensures
+    c.is_zero_from.ensures
     ∙ sym (past_decides c.args.queue.now c.args.m c.args.n (rw c.told-queue at c.greatest.ensures) c.if-greatest-n.true)
 
 pub returns-else-greatest-n : goal.returns-else-greatest-n
