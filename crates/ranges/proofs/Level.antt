@@ -1,4 +1,5 @@
--- The counters of one level of the tree: node 2^d + i has depth d, and the names under its left child begin 2·i shares in. Assumes nothing.
+-- The counters of one level of the tree: node 2^d + i has depth d, and the names under its left child begin 2·i shares in; by cases on
+-- the few depths that there are. Assumes nothing.
 --     node_test        the test of a node's counter
 --     level_test_lem      that of a counter of a level
 --     doubled_le, depth_4    the levels of L leaves

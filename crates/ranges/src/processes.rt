@@ -15,12 +15,12 @@ fn is_open(closed: u64, m: u8) -> bool
     (closed >> (m % 64)) % 2 == 0
 }
 
-// No name, or an open one below k.
+// No name, or an open one below k. `|` and `&` in place of branches: who holds a name no processor foresees.
 fn name_in_range(p: &Process, accepted: Accepted) -> bool
     ensures { result ≡ name_test accepted p.now.name }
 {
     let setup = accepted.setup();
-    p.name == NO_NAME || (p.name < accepted.names() && is_open(setup.closed, p.name))
+    (p.name == NO_NAME) | ((p.name < accepted.names()) & is_open(setup.closed, p.name))
 }
 
 // Is each number of a process in its range?

@@ -16,7 +16,8 @@ pub returns : goal.returns
 returns c =
     let s = c.args.accepted in
     let ps = c.args.process.now in
-    let few : s.processes ≤ length ps = omega (arith, (rw c.setup.ensures.value at (limits_of c.setup.result c.setup.ensures.accepted).n64)) in
+    let k = limits_of c.setup.result c.setup.ensures.accepted in
+    let few : s.processes ≤ length ps = omega (arith, (rw c.setup.ensures.value at k.n64)) in
     all_from_yields_List (process_test s) _ _ _ c.all.ensures.ran (YieldsList-from_slice (take s.processes ps) (search rules))
     (λ p t f k. search (rules, tests))
     ∙ list_all_below (process_test s) no_process (take s.processes ps)

@@ -26,7 +26,8 @@ fold-requires-clause-callable c =
 pub returns-then-setup-eq0 : goal.returns-then-setup-eq0
 returns-then-setup-eq0 c =
     let s = c.args.accepted in
-    eq-eqb _ 0 c.if-setup-eq0.true ∙ sym (none_shut s c.args.words.now (rw c.setup-setup.ensures.value at c.if-setup-eq0.true) (s.leaves * s.segments))
+    eq-eqb _ 0 c.if-setup-eq0.true
+    ∙ sym (none_shut s c.args.words.now (rw c.setup-setup.ensures.value at c.if-setup-eq0.true) (s.leaves * s.segments))
 
 pub returns-else-setup-eq0 : goal.returns-else-setup-eq0
 returns-else-setup-eq0 c =
