@@ -1,7 +1,6 @@
 -- The counters of one level of the tree: node 2^d + i has depth d, and the names under its left child begin 2·i shares in; by cases on
 -- the few depths that there are. Assumes nothing.
---     node_test        the test of a node's counter
---     level_test_lem      that of a counter of a level
+--     level_test_lem      the test of a counter of a level
 --     doubled_le, depth_4    the levels of L leaves
 use Rattle.std.proofs.Common.{ℕ, zero, suc, ◌+◌, ◌-◌, ◌*◌, ◌/◌, ◌%◌, ◌^◌, ◌<◌, ◌≤◌, eqb, leb, ltb, List, get_or, mul-le-mul_left, mul-add}
 use Rattle.std.proofs.Common.{div-mul-le_self, div-one, add-one, pow_pos, pow_mono}
@@ -11,13 +10,13 @@ use lib.Count.{ones}
 use Rattle.machine.proofs.Rules.{◌≡◌, ◌∙◌, sym, ap, refl, Bool, true, cond, not, ◌&&◌, ◌||◌}
 use Rattle.machine.proofs.Rules.{arith, eqb-true, ne_eqb, leb-true, lt-leb, le-leb, lt-ltb}
 use Rattle.machine.specs.Below.{all_below}
-use Rattle.machine.specs.Range.{counter_test}
 use Rattle.machine.specs.Setup.{names, is_leaves, log2}
 use Rattle.machine.specs.State.{depth, fresh_counter}
 use Rattle.machine.specs.declared.Setup.{Setup}
 use Rattle.machine.proofs.Facts.Below.{all_at, all_parts}
 use Rattle.machine.proofs.Facts.Leaves.{by_leaves}
 use Rattle.machine.proofs.Ranges.{Limits}
+use Rattle.ranges.specs.Tests.{node_test}
 use Rattle.fresh.specs.Counts.{closed_in}
 use Rattle.fresh.proofs.Counted.{counter_is}
 
@@ -31,10 +30,6 @@ all_depths = refl
 depth_is : (d i : ℕ) → d < 4 → i < 2 ^ d → depth (2 ^ d + i) ≡ d
 unfolding depth_test
 depth_is d i d4 l = eqb-true _ d (all_at (2 ^ d) (depth_test d) (all_at 4 (λ e. all_below (2 ^ e) (depth_test e)) all_depths d d4) i l)
-
--- the counter of node v, in its range
-abbrev pub node_test : Setup → List ℕ → ℕ → Bool
-node_test c counters v = counter_test c v (get_or counters v 0)
 
 -- a counter of level v, with n names under each left child, by the closed names
 abbrev pub level_test : List ℕ → ℕ → ℕ → ℕ → ℕ → Bool

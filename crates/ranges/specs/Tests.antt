@@ -1,5 +1,7 @@
--- What helpers of the range check promise: the numbers past the queue's end, and the greatest of numbers.
+-- What helpers of the range check promise: the numbers past the queue's end, the greatest of numbers, and a node's counter.
 use Rattle.std.specs.Prelude.{◌≡◌, ℕ, ◌<◌, ◌≤◌, Bool, ◌||◌, ◌⊎◌, List, ◌==◌, nat_lt, slice_index}
+use Rattle.machine.specs.Range.{counter_test}
+use Rattle.machine.specs.declared.Setup.{Setup}
 
 -- place i of the queue q: 0 past the first m places
 abbrev pub past_test : ℕ → List ℕ → ℕ → Bool
@@ -9,3 +11,7 @@ past_test m q i = nat_lt i m || slice_index q i == 0
 pub record Greatest (xs : List ℕ) (e r : ℕ) : Type 0 where
   pub most : (i : ℕ) → i < e → slice_index xs i ≤ r
   pub met : (r ≡ 0) ⊎ ((i : ℕ) × ((i < e) × (slice_index xs i ≡ r)))
+
+-- the counter of node v, in its range
+abbrev pub node_test : Setup → List ℕ → ℕ → Bool
+node_test c counters v = counter_test c v (slice_index counters v)

@@ -19,7 +19,9 @@ exchanged false b = sym (or-false b)
 module _ (s : Setup) (k : Limits s) (m : ℕ) where
   name_is : (eqb m 255 || (ltb m (names s) && eqb (bit s.closed (m % 64)) 0)) ≡ name_test s m
   unfolding is_open
-  name_is = exchanged (eqb m 255) (ltb m (names s) && eqb (bit s.closed (m % 64)) 0) ∙ ap (λ (t : Bool). t || eqb m 255) (go (dec_lt m (names s)))
+  name_is =
+      exchanged (eqb m 255) (ltb m (names s) && eqb (bit s.closed (m % 64)) 0)
+      ∙ ap (λ (t : Bool). t || eqb m 255) (go (dec_lt m (names s)))
     where
       go : Dec (m < names s) → (ltb m (names s) && eqb (bit s.closed (m % 64)) 0) ≡ (ltb m (names s) && is_open s m)
       go (yes l) =

@@ -9,7 +9,7 @@ use Rattle.fresh.specs.Counts.{closed_in}
 use Rattle.fresh.proofs.Counted.{closed_le}
 use Rattle.fresh.proofs.Levels.{shifted_is}
 use Rattle.ranges.proofs.Level.{level_test_lem, share_32, left_closed, doubled_le, first_64}
-use Rattle.ranges.proofs.counters.level_counter_in_range.Goals as goal
+use Rattle.ranges.proofs.counters.Counters.level_counter_in_range.Goals as goal
 
 -- a level of depth 3 at most
 module _ (d i : ℕ) (d4 : d < 4) (l : i < 2 ^ d) where
@@ -30,16 +30,16 @@ overflow_mul-rest c = record { fits = omega (arith, few c.args.d c.args.i c.requ
 
 pub overflow_shr-rest : goal.overflow_shr-rest
 overflow_shr-rest c =
-    let s = c.args.accepted in
+    let s = c.args.self.now.accepted in
     let k = limits_of s (same_answer c.setup-closed.ensures.value c.setup-closed.ensures.accepted) in
     rw c.names.ensures (first_64 (names s) c.args.d c.args.i k.k64 c.requires.1.1)
 
-pub bounds-counters-from : goal.bounds-counters-from
-bounds-counters-from c = rw c.from.ensures (place c.args.d c.args.i c.requires.0 c.requires.1.1)
+pub bounds-self-from : goal.bounds-self-from
+bounds-self-from c = rw c.from.ensures (place c.args.d c.args.i c.requires.0 c.requires.1.1)
 
 pub closed_in-requires : goal.closed_in-requires
 closed_in-requires c =
-    let s = c.args.accepted in
+    let s = c.args.self.now.accepted in
     let k = limits_of s (same_answer c.setup-closed.ensures.value c.setup-closed.ensures.accepted) in
     (omega arith, rw c.names.ensures (share_32 (names s) c.args.d k.k64))
 
@@ -48,7 +48,7 @@ overflow_sub-result c = rw c.closed_in.ensures (closed_le _ _ _)
 
 pub returns : goal.returns
 returns c =
-    let s = c.args.accepted in
+    let s = c.args.self.now.accepted in
     let d = c.args.d in
     let i = c.args.i in
     let k = limits_of s (same_answer c.setup-closed.ensures.value c.setup-closed.ensures.accepted) in
@@ -59,4 +59,4 @@ returns c =
     let n = names s / 2 ^ (d + 1) in
     let shut : c.closed_in.result ≡ closed_in s.closed (2 * i * n) n
     = (rw (c.setup-closed.ensures.value, c.names.ensures) at c.closed_in.ensures) ∙ left_closed s.closed n i refl in
-    rw (c.from.ensures, nodes d i deep l, c.names.ensures, shut) (level_test_lem s c.args.counters.now k d i deep l inside)
+    rw (c.from.ensures, nodes d i deep l, c.names.ensures, shut) (level_test_lem s c.args.self.now.counters.now k d i deep l inside)
