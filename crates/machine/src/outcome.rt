@@ -1,6 +1,8 @@
 // What C is given for the result of a call: a number for the answer, beside what the call gave. A refused call gives 0 for each figure.
 ghost use Rattle.std.specs.Prelude.{◌≡◌};
 ghost use Rattle.machine.specs.Outcome.{as_done, as_written, as_report, as_dearest};
+ghost use Rattle.machine.specs.Refusal.{answered};
+ghost use Rattle.machine.specs.State.{done};
 
 use crate::refusal::answered;
 use crate::{DearestList, Done, Refusal, Report, State, Written};
@@ -29,7 +31,19 @@ impl Done {
             state: made.unwrap_or(otherwise),
         }
     }
+
+    // The state that a call left of the one that it was lent.
+    pub fn left(outcome: Result<(), Refusal>, state: State) -> Done
+        ensures { result ≡ done (answered outcome) state }
+    {
+        Done {
+            answer: answered(&outcome),
+            state,
+        }
+    }
 }
+
+// C's records have fields of their own, so that each has its conversion.
 
 impl From<Result<usize, Refusal>> for Written {
     ghost from_gives = { λ r w. w ≡ as_written r };

@@ -10,7 +10,6 @@ ghost use Rattle.machine.specs.State.{setup as State·setup, partial_setup};
 
 use crate::narrow::{narrowed, numbers};
 use fresh::state::blank_state;
-use machine::refusal::answered;
 use machine::{Done, Report, State};
 use renaming::{event, list, report, setup};
 
@@ -50,11 +49,7 @@ pub extern "C" fn zevgorim_closed_setup(n: u32, l: u32, g: u32, b: u32, closed: 
 pub extern "C" fn zevgorim_event(mut state: State, kind: u32, process: u32) -> Done
     ensures { result ≡ Event.event state kind process }
 {
-    let result = event::event(&mut state, narrowed(kind), narrowed(process));
-    Done {
-        answer: answered(&result),
-        state,
-    }
+    Done::left(event::event(&mut state, narrowed(kind), narrowed(process)), state)
 }
 
 #[unsafe(no_mangle)]
@@ -62,11 +57,7 @@ pub extern "C" fn zevgorim_event(mut state: State, kind: u32, process: u32) -> D
 pub extern "C" fn zevgorim_request(mut state: State, process: u32) -> Done
     ensures { result ≡ Event.event state Kind·request process }
 {
-    let result = event::request(&mut state, narrowed(process));
-    Done {
-        answer: answered(&result),
-        state,
-    }
+    Done::left(event::request(&mut state, narrowed(process)), state)
 }
 
 #[unsafe(no_mangle)]
@@ -74,11 +65,7 @@ pub extern "C" fn zevgorim_request(mut state: State, process: u32) -> Done
 pub extern "C" fn zevgorim_step(mut state: State, process: u32) -> Done
     ensures { result ≡ Event.event state Kind·step process }
 {
-    let result = event::step(&mut state, narrowed(process));
-    Done {
-        answer: answered(&result),
-        state,
-    }
+    Done::left(event::step(&mut state, narrowed(process)), state)
 }
 
 #[unsafe(no_mangle)]
@@ -86,11 +73,7 @@ pub extern "C" fn zevgorim_step(mut state: State, process: u32) -> Done
 pub extern "C" fn zevgorim_release(mut state: State, process: u32) -> Done
     ensures { result ≡ Event.event state Kind·release process }
 {
-    let result = event::release(&mut state, narrowed(process));
-    Done {
-        answer: answered(&result),
-        state,
-    }
+    Done::left(event::release(&mut state, narrowed(process)), state)
 }
 
 #[unsafe(no_mangle)]
@@ -98,11 +81,7 @@ pub extern "C" fn zevgorim_run(mut state: State, events: &[u8], journal: &mut [u
     ensures done { result ≡ Lists.run state events.now journal.old }
     ensures journal { journal.new ≡ Lists.run_journal state events.now journal.old }
 {
-    let result = list::run(&mut state, events, journal);
-    Done {
-        answer: answered(&result),
-        state,
-    }
+    Done::left(list::run(&mut state, events, journal), state)
 }
 
 #[unsafe(no_mangle)]
