@@ -18,7 +18,8 @@ pub use refusal::Refusal;
 pub const NO_NAME: u8 = 255;
 
 // What a setup is given: processes (document 01: handsets) N, leaves L, segments (rows) in a leaf g, bits in a segment b, and which
-// names are closed (document 02, e: closed pads): bit p of `closed` is 1 where name p is.
+// names are closed (document 02, e: closed pads): bit p of `closed` is 1 where name p is. C's record has the four one by one, and so no
+// `Numbers` in it.
 #[repr(C)]
 #[derive(Clone, Copy, Default)]
 pub struct Setup {

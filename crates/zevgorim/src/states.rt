@@ -49,7 +49,10 @@ pub extern "C" fn zevgorim_closed_setup(n: u32, l: u32, g: u32, b: u32, closed: 
 pub extern "C" fn zevgorim_event(mut state: State, kind: u32, process: u32) -> Done
     ensures { result ≡ Event.event state kind process }
 {
-    Done::left(event::event(&mut state, narrowed(kind), narrowed(process)), state)
+    Done::left(
+        event::event(&mut state, narrowed(kind), narrowed(process)),
+        state,
+    )
 }
 
 #[unsafe(no_mangle)]
