@@ -4,92 +4,125 @@
 // length in two bytes, low byte first, and the list.
 use cases::{image, input, line};
 use fresh::state;
-use machine::{Numbers, Refusal, Report, Setup, State, refusal};
+use machine::{GateReport, Numbers, Refusal, State, refusal};
 use renaming::{event, list, report, setup};
+use std::io::{self, ErrorKind, Read, Write};
+
+// What a record calls.
+#[derive(Clone, Copy)]
+enum Call {
+    Event,
+    List,
+    Report,
+    Setup,
+    Closed,
+}
+
+impl TryFrom<u8> for Call {
+    type Error = io::Error;
+
+    fn try_from(n: u8) -> io::Result<Call> {
+        match n {
+            0 => Ok(Call::Event),
+            1 => Ok(Call::List),
+            2 => Ok(Call::Report),
+            3 => Ok(Call::Setup),
+            4 => Ok(Call::Closed),
+            _ => Err(ErrorKind::InvalidData.into()),
+        }
+    }
+}
 
 // What a call answered, and the digest of the state that it left.
-fn print_state<T>(word: &[u8], outcome: &Result<T, Refusal>, state: &State) -> Option<()> {
+fn print_state<W: Write, T>(
+    output: &mut W,
+    word: &[u8],
+    outcome: &Result<T, Refusal>,
+    state: &State,
+) -> io::Result<()> {
     let answer = refusal::answered(outcome);
-    line::print_line(word, &[answer.into(), image::digest(state).into()])
+    line::print_line(output, word, &[answer.into(), image::digest(state).into()])
 }
 
 // An event.
-fn event_call(mut state: State) -> Option<()> {
-    let [kind, process] = input::read::<2>()?;
+fn event_call<R: Read, W: Write>(
+    input: &mut R,
+    output: &mut W,
+    mut state: State,
+) -> io::Result<()> {
+    let [kind, process]: [u8; 2] = input::read(input)?;
     let done = event::event(&mut state, kind, process);
-    print_state(b"event", &done, &state)
+    print_state(output, b"event", &done, &state)
 }
 
 // A list: the answer, the digest of the state that it left, and the journal. Journal bytes that the call leaves untouched show as 170.
-fn list_call(mut state: State) -> Option<()> {
-    let [size, room] = input::read::<2>()?.map(usize::from);
+fn list_call<R: Read, W: Write>(input: &mut R, output: &mut W, mut state: State) -> io::Result<()> {
+    let [size, room]: [u8; 2] = input::read(input)?;
     let mut events = [0; 255];
-    let events = events.get_mut(..size)?;
-    input::fill(events)?;
+    let events = input::read_into(input, &mut events, size.into())?;
     let mut journal = [170; 255];
-    let journal = journal.get_mut(..room)?;
+    let journal = &mut journal[..usize::from(room)];
     let done = list::run(&mut state, events, journal);
-    let mut numbers = [0; 257];
-    numbers[0] = refusal::answered(&done).into();
-    numbers[1] = image::digest(&state).into();
-    for (number, &byte) in numbers[2..].iter_mut().zip(&*journal) {
-        *number = byte.into();
-    }
-    line::print_line(b"list", numbers.get(..room + 2)?)
-}
-
-// The gate report.
-fn report_call(state: &State) -> Option<()> {
-    let report = Report::from(report::gate_report(state));
-    line::print_line(
-        b"report",
-        &[
-            report.answer.into(),
-            report.free.into(),
-            report.queued.into(),
-        ],
+    let answer = refusal::answered(&done);
+    line::print_bytes(
+        output,
+        b"list",
+        &[answer.into(), image::digest(&state).into()],
+        journal,
     )
 }
 
-// What a setup gives: the state, or the blank one where it is refused.
-fn print_setup(word: &[u8], made: Result<State, Refusal>) -> Option<()> {
-    print_state(word, &made, made.as_ref().unwrap_or(&state::blank_state()))
+// The gate report.
+fn report_call<W: Write>(output: &mut W, state: &State) -> io::Result<()> {
+    let report = report::gate_report(state);
+    let answer = refusal::answered(&report);
+    let GateReport { free, queued } = report.unwrap_or_default();
+    let numbers = [answer, free, queued].map(u64::from);
+    line::print_line(output, b"report", &numbers)
 }
 
-// The four numbers of a setup.
-fn numbers_of(setup: Setup) -> Numbers {
-    Numbers {
-        processes: setup.processes,
-        leaves: setup.leaves,
-        segments: setup.segments,
-        bits: setup.bits,
-    }
+// What a setup gives: the state, or the blank one where it is refused.
+fn print_setup<W: Write>(
+    output: &mut W,
+    word: &[u8],
+    made: &Result<State, Refusal>,
+) -> io::Result<()> {
+    let blank = state::blank_state();
+    print_state(output, word, made, made.as_ref().unwrap_or(&blank))
 }
 
 // A setup with a count.
-fn setup_call(numbers: Numbers) -> Option<()> {
-    let count = u64::from_le_bytes(input::read()?);
-    print_setup(b"setup", setup::partial_setup(numbers, count))
+fn setup_call<R: Read, W: Write>(
+    input: &mut R,
+    output: &mut W,
+    numbers: Numbers,
+) -> io::Result<()> {
+    let count = u64::from_le_bytes(input::read(input)?);
+    print_setup(output, b"setup", &setup::partial_setup(numbers, count))
 }
 
 // A setup with a list of closed names, of at most 600 bytes.
-fn closed_call(numbers: Numbers) -> Option<()> {
-    let size = u16::from_le_bytes(input::read()?);
+fn closed_call<R: Read, W: Write>(
+    input: &mut R,
+    output: &mut W,
+    numbers: Numbers,
+) -> io::Result<()> {
+    let size = u16::from_le_bytes(input::read(input)?);
     let mut closed = [0; 600];
-    let closed = closed.get_mut(..usize::from(size))?;
-    input::fill(closed)?;
-    print_setup(b"closed", setup::closed_setup(numbers, closed))
+    let closed = input::read_into(input, &mut closed, size.into())?;
+    print_setup(output, b"closed", &setup::closed_setup(numbers, closed))
 }
 
-// Reads a record, makes its call and prints its line. None where the input ends, within a record too, and where the number is no call's.
-pub(crate) fn next() -> Option<()> {
-    let state = image::state_of(&input::read()?);
-    match input::read_byte()? {
-        0 => event_call(state),
-        1 => list_call(state),
-        2 => report_call(&state),
-        3 => setup_call(numbers_of(state.setup)),
-        4 => closed_call(numbers_of(state.setup)),
-        _ => None,
+// Reads a record, makes its call and prints its line. An error where the input ends, within a record too, and where the number is no
+// call's.
+pub(crate) fn next<R: Read, W: Write>(input: &mut R, output: &mut W) -> io::Result<()> {
+    let state = image::state_of(&input::read(input)?);
+    let [call]: [u8; 1] = input::read(input)?;
+    match Call::try_from(call)? {
+        Call::Event => event_call(input, output, state),
+        Call::List => list_call(input, output, state),
+        Call::Report => report_call(output, &state),
+        Call::Setup => setup_call(input, output, state.setup.into()),
+        Call::Closed => closed_call(input, output, state.setup.into()),
     }
 }

@@ -2,4 +2,6 @@
 pub mod FromFn
 pub mod Digests
 pub mod Lines
+pub mod Parts
+pub mod Shown
 pub mod Decimals

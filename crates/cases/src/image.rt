@@ -1,34 +1,28 @@
 // A state from 542 bytes, one for each number in the order of its fields and eight for the closed names, and the figure that shows a state
 // or bytes on a line.
-ghost use Rattle.std.specs.Prelude.{◌≡◌, ◌+◌, ◌<◌, ◌≤◌};
-ghost use Rattle.cases.specs.Image.{bytes_from, process_of, state_of, process_bytes, digest_from, digest_of};
+ghost use Rattle.std.specs.Prelude.{◌≡◌, ◌+◌, ◌≤◌, length, take, drop};
+ghost use Rattle.cases.specs.Image.{state_of, process_bytes, digest_from, digest_of};
 
-use machine::{Process, Setup, State};
+use machine::{Numbers, Process, State};
 use std::array;
 
-// N bytes of the image from a place on.
-fn part<const N: usize>(image: &[u8; 542], at: usize) -> [u8; N]
-    requires { at + N ≤ 542 }
-    ensures { result ≡ bytes_from image.now at N }
-{
-    let mut bytes = [0; N];
-    bytes.copy_from_slice(&image[at..at + N]);
-    bytes
+// The bytes of an image that are still to be taken.
+#[derive(Drop)]
+struct Rest<'a> {
+    bytes: &'a [u8],
 }
 
-// Process p of the image.
-fn process_of(image: &[u8; 542], p: usize) -> Process
-    requires { p < 64 }
-    ensures { result ≡ process_of image.now p }
-{
-    let [stage, node, segment, name, steps, returns] = part::<6>(image, 158 + 6 * p);
-    Process {
-        stage,
-        node,
-        segment,
-        name,
-        steps,
-        returns,
+impl Rest<'_> {
+    // Takes the next N bytes.
+    fn take<const N: usize>(&mut self) -> [u8; N]
+        requires { N ≤ length self.old.bytes.now }
+        ensures taken { result ≡ take N self.old.bytes.now }
+        ensures rest { self.new.bytes.now ≡ drop N self.old.bytes.now }
+        ensures left { N + length self.new.bytes.now ≡ length self.old.bytes.now }
+    {
+        let (taken, rest) = self.bytes.split_first_chunk().unwrap();
+        self.bytes = rest;
+        *taken
     }
 }
 
@@ -36,21 +30,22 @@ fn process_of(image: &[u8; 542], p: usize) -> Process
 pub fn state_of(image: &[u8; 542]) -> State
     ensures { result ≡ state_of image.now }
 {
-    let [processes, leaves, segments, bits] = part::<4>(image, 0);
+    let mut rest = Rest { bytes: image };
+    let numbers = Numbers::from(rest.take());
+    let closed = u64::from_le_bytes(rest.take());
+    let [gate, queued] = rest.take::<2>();
+    let queue = rest.take();
+    let counters = rest.take();
+    let words = rest.take();
+    let (processes, _) = rest.bytes.as_chunks();
     State {
-        setup: Setup {
-            processes,
-            leaves,
-            segments,
-            bits,
-            closed: u64::from_le_bytes(part(image, 4)),
-        },
-        gate: image[12].cast_signed(),
-        queued: image[13],
-        queue: part(image, 14),
-        counters: part(image, 78),
-        words: part(image, 94),
-        process: array::from_fn(|p| process_of(image, p)),
+        setup: numbers.closing(closed),
+        gate: gate.cast_signed(),
+        queued,
+        queue,
+        counters,
+        words,
+        process: array::from_fn(|p| Process::from(processes[p])),
     }
 }
 
@@ -58,6 +53,7 @@ pub fn state_of(image: &[u8; 542]) -> State
 fn mix(figure: u16, bytes: &[u8]) -> u16
     ensures { result ≡ digest_from figure bytes.now }
 {
+    // a remainder by 65521 is a u16, and Rust has no From that knows
     bytes.iter().fold(
         figure,
         |d, &byte| ((31 * u32::from(d) + u32::from(byte)) % 65521) as u16,
@@ -75,10 +71,7 @@ pub fn digest_bytes(bytes: &[u8]) -> u16
 fn mix_process(figure: u16, h: &Process) -> u16
     ensures { result ≡ digest_from figure (process_bytes h.now) }
 {
-    mix(
-        figure,
-        &[h.stage, h.node, h.segment, h.name, h.steps, h.returns],
-    )
+    mix(figure, &<[u8; 6]>::from(*h))
 }
 
 // The figure for a state.
@@ -86,10 +79,7 @@ pub fn digest(state: &State) -> u16
     ensures { result ≡ digest_of state.now }
 {
     let setup = state.setup;
-    let figure = mix(
-        0,
-        &[setup.processes, setup.leaves, setup.segments, setup.bits],
-    );
+    let figure = mix(0, &<[u8; 4]>::from(Numbers::from(setup)));
     let figure = mix(figure, &setup.closed.to_le_bytes());
     let figure = mix(figure, &[state.gate.cast_unsigned(), state.queued]);
     let figure = mix(figure, &state.queue);

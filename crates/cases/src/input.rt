@@ -1,50 +1,39 @@
-// What the programs read from standard input, and the loop in which they do.
+// What the programs read of their input.
+ghost use Rattle.std.specs.Prelude.{◌≡◌, ◌^◌, ◌<◌, ◌≤◌, IfOk, OnOk, length};
+ghost use Rattle.std.specs.Int.{w32, to_le_bytes};
+ghost use Rattle.std.specs.Io.KnownBytes.{Consumes};
 
-use machine::Numbers;
+use std::io::{self, ErrorKind, Read};
 
-const STDIN: i32 = 0;
-
-// Fills a buffer; None where the input ends before.
-pub fn fill(bytes: &mut [u8]) -> Option<()> {
-    (io::read_full(STDIN, bytes) == bytes.len()).then_some(())
-}
-
-// The next N bytes; None where the input ends before.
-pub fn read<const N: usize>() -> Option<[u8; N]> {
+// The next N bytes; an error where the input ends before.
+pub fn read<R: Read, const N: usize>(input: &mut R) -> io::Result<[u8; N]>
+    ensures { IfOk result (λ bytes. Consumes (R.remaining input.old) (R.remaining input.new) bytes) }
+{
     let mut bytes = [0; N];
-    fill(&mut bytes)?;
-    Some(bytes)
-}
-
-pub fn read_byte() -> Option<u8> {
-    let [byte] = read::<1>()?;
-    Some(byte)
+    input.read_exact(&mut bytes)?;
+    Ok(bytes)
 }
 
 // The next four bytes as a size, low byte first.
-pub fn read_size() -> Option<usize> {
-    Some(u32::from_le_bytes(read()?) as usize)
-}
-
-// The next four bytes as the numbers of a setup.
-pub fn read_numbers() -> Option<Numbers> {
-    let [processes, leaves, segments, bits] = read::<4>()?;
-    Some(Numbers {
-        processes,
-        leaves,
-        segments,
-        bits,
-    })
-}
-
-// Makes a step with each number from 0 on, until one gives None. A proved loop has to end, and nothing says that the input does: so the
-// numbers end too, where no run gets to.
-pub fn repeat<F: FnMut(u64) -> Option<()>>(mut step: F)
-    requires { F.IsAlwaysCallable step }
+pub fn read_size<R: Read>(input: &mut R) -> io::Result<usize>
+    ensures bytes { IfOk result (λ n. Consumes (R.remaining input.old) (R.remaining input.new) (to_le_bytes w32 n)) }
+    ensures bound { IfOk result (λ n. n < 2 ^ 32) }
 {
-    for n in 0..u64::MAX {
-        if step(n).is_none() {
-            return;
-        }
-    }
+    // Rust has no From between u32 and usize
+    Ok(u32::from_le_bytes(read(input)?) as usize)
+}
+
+// The next `size` bytes, at the start of a buffer; an error where they do not fit.
+pub fn read_into<'a, R: Read>(
+    input: &mut R,
+    buffer: &'a mut [u8],
+    size: usize,
+) -> io::Result<&'a mut [u8]>
+    ensures room { OnOk result (size ≤ length buffer.old) }
+    ensures size { IfOk result (λ bytes. length bytes.now ≡ size) }
+    ensures bytes { IfOk result (λ bytes. Consumes (R.remaining input.old) (R.remaining input.new) bytes.now) }
+{
+    let bytes = buffer.get_mut(..size).ok_or(ErrorKind::InvalidData)?;
+    input.read_exact(bytes)?;
+    Ok(bytes)
 }

@@ -4,20 +4,21 @@
 #![tactic(auto)]
 
 use cases::{input, line};
+use std::io::{self, ErrorKind, Read, Write};
 use text::file;
 
-// Reads a file, and prints its number and its text. None where the input ends, within a file too.
-fn next(n: u64) -> Option<()> {
-    let size = input::read_size()?;
+// Reads a file, and prints its number and its text. An error where the input ends, within a file too.
+fn next<R: Read, W: Write>(input: &mut R, output: &mut W, n: u64) -> io::Result<()> {
+    let size = input::read_size(input)?;
     let mut bytes = [0; 65536];
-    let file = bytes.get_mut(..size)?;
-    input::fill(file)?;
-    line::print_line(b"case", &[n])?;
+    let file = input::read_into(input, &mut bytes, size)?;
+    line::print_line(output, b"case", &[n])?;
     let mut out = [0; 262144];
-    let size = file::file_text(file, &mut out).ok()?;
-    line::print(&out[..size])
+    let size = file::file_text(file, &mut out).map_err(|_| ErrorKind::InvalidData)?;
+    output.write_all(&out[..size])
 }
 
-fn main() {
-    input::repeat(next);
+fn main(rt: HostRuntime) {
+    // stops at the first error, as where the input ends; a proved loop has to end, so the numbers end too, where no run gets to
+    let _ = (0..u64::MAX).try_for_each(|n| next(&mut rt.stdin(), &mut rt.stdout(), n));
 }

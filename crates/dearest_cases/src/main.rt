@@ -5,11 +5,18 @@
 #![tactic(auto)]
 
 use cases::{input, line};
-use machine::{DearestList, Numbers, State, stage};
+use machine::{Dearest, Numbers, Refusal, State, refusal, stage};
 use renaming::{list, setup};
+use std::io::{self, ErrorKind, Read, Write};
 
 // The byte that lent buffers are filled with.
 const LENT: u8 = 170;
+
+// What a call's list did: the claim figure of the dearest holder after it, and whether something is amiss.
+struct Outcome {
+    holder: u8,
+    is_amiss: bool,
+}
 
 // The largest claim figure of a process that holds a name; 0 if none does.
 fn dearest_holder(state: &State) -> u8 {
@@ -22,50 +29,43 @@ fn dearest_holder(state: &State) -> u8 {
         .unwrap_or(0)
 }
 
-// That of the state after a list from a setup's own state; 0 where the setup is refused.
-fn holder_after(numbers: Numbers, events: &[u8]) -> u8 {
-    let Ok(mut state) = setup::setup(numbers) else {
-        return 0;
-    };
+// That of the state after a list from a setup's own state.
+fn holder_after(numbers: Numbers, events: &[u8]) -> Result<u8, Refusal> {
+    let mut state = setup::setup(numbers)?;
     let mut journal = [0; 8192];
-    let _ = list::run(&mut state, events, &mut journal);
-    dearest_holder(&state)
+    list::run(&mut state, events, &mut journal)?;
+    Ok(dearest_holder(&state))
 }
 
-// A size is amiss that is odd, above 4,096 or, of a refused call, not 0.
-fn is_size_amiss(made: DearestList) -> bool {
-    made.size % 2 != 0 || made.size > 4096 || made.answer != 0 && made.size != 0
-}
-
-// The holder after the list that a call made, and whether something is amiss: its size, or a byte past the list that changed.
-fn outcome(numbers: Numbers, made: DearestList, out: &[u8]) -> (u8, bool) {
-    let Some((events, rest)) = out.split_at_checked(made.size) else {
-        return (0, true);
+// Amiss are a size that is odd, above 4,096 or past what was lent, and a byte past the list that changed.
+fn outcome_of(numbers: Numbers, size: usize, out: &[u8]) -> Outcome {
+    let Some((events, rest)) = out.split_at_checked(size) else {
+        return Outcome {
+            holder: 0,
+            is_amiss: true,
+        };
     };
-    let is_kept = rest.iter().all(|&byte| byte == LENT);
-    let holder = holder_after(numbers, events);
-    (holder, !is_kept || is_size_amiss(made))
+    Outcome {
+        holder: holder_after(numbers, events).unwrap_or_default(),
+        is_amiss: size % 2 != 0 || size > 4096 || rest.iter().any(|&byte| byte != LENT),
+    }
 }
 
-// Reads a call, makes it and prints its line. None where the input ends, within a record too, and where more is asked than there is.
-fn next() -> Option<()> {
-    let numbers = input::read_numbers()?;
-    let room = input::read_size()?;
+// Reads a call, makes it and prints its line. An error where the input ends, within a record too, and where more is asked than there is.
+fn next<R: Read, W: Write>(input: &mut R, output: &mut W) -> io::Result<()> {
+    let numbers = Numbers::from(input::read(input)?);
+    let room = input::read_size(input)?;
     let mut out = [LENT; 65536];
-    let out = out.get_mut(..room)?;
-    let made = DearestList::from(dearest::dearest_list(numbers, out));
-    let (holder, amiss) = outcome(numbers, made, out);
-    line::print_line(
-        b"dearest",
-        &[
-            made.answer.into(),
-            made.figure.into(),
-            holder.into(),
-            amiss.into(),
-        ],
-    )
+    let out = out.get_mut(..room).ok_or(ErrorKind::InvalidData)?;
+    let made = dearest::dearest_list(numbers, out);
+    let answer = refusal::answered(&made);
+    let Dearest { figure, size } = made.unwrap_or_default();
+    let Outcome { holder, is_amiss } = outcome_of(numbers, size, out);
+    let shown = [answer, figure, holder, is_amiss.into()].map(u64::from);
+    line::print_line(output, b"dearest", &shown)
 }
 
-fn main() {
-    input::repeat(|_| next());
+fn main(rt: HostRuntime) {
+    // stops at the first error, as where the input ends; a proved loop has to end, so the numbers end too, where no run gets to
+    let _ = (0..u64::MAX).try_for_each(|_| next(&mut rt.stdin(), &mut rt.stdout()));
 }

@@ -5,27 +5,29 @@
 #![tactic(auto)]
 
 use cases::{image, input, line};
-use machine::Written;
+use machine::{Numbers, refusal};
+use std::io::{self, ErrorKind, Read, Write};
 
-// Reads a call, makes it and prints its line. None where the input ends, within a record too, and where more is asked than there is.
-fn next() -> Option<()> {
-    let numbers = input::read_numbers()?;
-    let size = input::read_size()?;
-    let given = input::read_size()?;
-    let room = input::read_size()?;
+// Reads a call, makes it and prints its line. An error where the input ends, within a record too, and where more is asked than there is.
+fn next<R: Read, W: Write>(input: &mut R, output: &mut W) -> io::Result<()> {
+    let numbers = Numbers::from(input::read(input)?);
+    let size = input::read_size(input)?;
+    let given = input::read_size(input)?;
+    let room = input::read_size(input)?;
     let mut events = [0; 262144];
-    let events = events.get_mut(..size)?;
-    input::fill(events.get_mut(..given)?)?;
+    let events = events.get_mut(..size).ok_or(ErrorKind::InvalidData)?;
+    input::read_into(input, events, given)?;
     let mut out = [170; 65536];
-    let out = out.get_mut(..room)?;
-    let written = Written::from(day_writer::write_file(numbers, events, out));
+    let out = out.get_mut(..room).ok_or(ErrorKind::InvalidData)?;
+    let written = day_writer::write_file(numbers, events, out);
+    let answer = refusal::answered(&written);
+    // Rust has no From between usize and u64
+    let size = written.unwrap_or_default() as u64;
     let figure = image::digest_bytes(out);
-    line::print_line(
-        b"write",
-        &[written.answer.into(), written.size as u64, figure.into()],
-    )
+    line::print_line(output, b"write", &[answer.into(), size, figure.into()])
 }
 
-fn main() {
-    input::repeat(|_| next());
+fn main(rt: HostRuntime) {
+    // stops at the first error, as where the input ends; a proved loop has to end, so the numbers end too, where no run gets to
+    let _ = (0..u64::MAX).try_for_each(|_| next(&mut rt.stdin(), &mut rt.stdout()));
 }
