@@ -4,30 +4,24 @@
 use std::env::{Env, FillError};
 use text::file;
 
-// The descriptors that a program is started with.
-const STDIN: i32 = 0;
-
-const STDOUT: i32 = 1;
-
-const STDERR: i32 = 2;
-
 // Says a line where no output of the program is read.
-fn complain(line: &[u8]) {
-    io::write_all(STDERR, line);
+fn complain(rt: &impl Eprint, line: &str) {
+    let _ = rt.eprintln(line);
 }
 
 // The text of the file on standard input.
-fn print_text() {
+fn print_text(rt: &(impl Print + Eprint)) {
     // one byte more than a file may have, so that a longer one shows
     let mut input = [0; 32769];
-    let n = io::read_full(STDIN, &mut input);
+    // the kit's call, which takes a descriptor: std reads a whole file only onto the heap
+    let n = io::read_full(libc::STDIN_FILENO, &mut input);
     // 16,370 events take at most 16 bytes each
     let mut out = [0; 262144];
     let Ok(size) = file::file_text(&input[..n], &mut out) else {
         return;
     };
-    if !io::write_all(STDOUT, &out[..size]) {
-        complain(b"pads: cannot write\n");
+    if rt.write_all(&out[..size]).is_err() {
+        complain(rt, "pads: cannot write");
     }
 }
 
@@ -38,8 +32,8 @@ fn has_argument(env: &impl Env) -> bool {
 
 fn main(rt: HostRuntime) {
     if has_argument(&rt) {
-        complain(b"usage: pads < FILE\n");
+        complain(&rt, "usage: pads < FILE");
     } else {
-        print_text();
+        print_text(&rt);
     }
 }
