@@ -8,7 +8,8 @@ use Rattle.std.proofs.Math.Nat.{div-div-eq-div-mul}
 use Rattle.std.proofs.Common.{of_z, w8}
 use Rattle.machine.specs.declared.Process.{Process}
 use Rattle.machine.specs.declared.State.{State}
-use Rattle.cases.specs.Image.{mixed, digest_from, process_bytes, processes_bytes, number_bytes, head_bytes, image_of, digest_of}
+use Rattle.machine.specs.Bytes.{process_bytes}
+use Rattle.cases.specs.Image.{mixed, digest_from, processes_bytes, number_bytes, head_bytes, image_of, digest_of}
 
 pub digest-fold : (d : ℕ) (xs : List ℕ) → digest_from d xs ≡ fold mixed d xs
 unfolding digest_from

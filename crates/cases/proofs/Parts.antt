@@ -9,11 +9,11 @@ use Rattle.std.specs.Simd.{first_chunks}
 use Rattle.std.proofs.lemmas.List.{places, same_lists}
 use Rattle.machine.specs.Below.{tabulate}
 use Rattle.machine.proofs.Facts.Tabulated.{by_place}
-use Rattle.machine.specs.Bytes.{numbers_bytes}
+use Rattle.machine.specs.Bytes.{numbers_bytes, process_bytes}
 use Rattle.machine.specs.Setup.{numbered, closing_of}
 use Rattle.machine.specs.declared.Process.{Process}
 use Rattle.machine.specs.declared.numbers.Numbers.{Numbers}
-use Rattle.cases.specs.Image.{byte_at, bytes_from, process_bytes, process_of}
+use Rattle.cases.specs.Image.{byte_at, bytes_from, process_of}
 
 pub part : (image : List ℕ) (at n : ℕ) → at + n ≤ length image → take n (drop at image) ≡ bytes_from image at n
 part image at n fits = by_place n _ 0 (take n (drop at image)) (grind (arith, places)) (λ j k. grind (arith, places))

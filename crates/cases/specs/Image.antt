@@ -5,6 +5,7 @@ use Rattle.std.specs.Prelude.{List, [], ◌∷◌, ◌++◌, ℕ, zero, suc, ◌
 use Rattle.std.specs.Int.{w8}
 use Rattle.std.proofs.Common.{to_z, of_z}
 use Rattle.machine.specs.Below.{tabulate}
+use Rattle.machine.specs.Bytes.{process_bytes}
 use Rattle.machine.specs.Setup.{numbered}
 use Rattle.machine.specs.declared.Process.{Process}
 use Rattle.machine.specs.declared.State.{State}
@@ -44,10 +45,7 @@ state_of image =
       process = tabulate 64 (process_of image);
     }
 
--- a process as bytes, and one process after another
-abbrev pub process_bytes : Process → List ℕ
-process_bytes h = h.stage ∷ h.node ∷ h.segment ∷ h.name ∷ h.steps ∷ h.returns ∷ []
-
+-- one process after another
 unfoldable pub processes_bytes : List Process → List ℕ
 processes_bytes [] = []
 processes_bytes (h ∷ hs) = process_bytes h ++ processes_bytes hs

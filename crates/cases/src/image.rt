@@ -1,7 +1,8 @@
 // A state from 542 bytes, one for each number in the order of its fields and eight for the closed names, and the figure that shows a state
 // or bytes on a line.
 ghost use Rattle.std.specs.Prelude.{◌≡◌, ◌+◌, ◌≤◌, length, take, drop};
-ghost use Rattle.cases.specs.Image.{state_of, process_bytes, digest_from, digest_of};
+ghost use Rattle.machine.specs.Bytes.{process_bytes};
+ghost use Rattle.cases.specs.Image.{state_of, digest_from, digest_of};
 
 use machine::{Numbers, Process, State};
 use std::array;

@@ -3,7 +3,8 @@ use Rattle.std.proofs.Common.{◌≡◌, ◌∙◌, ◌+◌, ◌*◌, w8, to_z, 
 use Rattle.std.specs.Simd.{first_chunks}
 use Rattle.machine.specs.Below.{tabulate}
 use Rattle.machine.specs.Setup.{numbered}
-use Rattle.cases.specs.Image.{byte_at, bytes_from, number_from, process_bytes, process_of, state_of}
+use Rattle.machine.specs.Bytes.{process_bytes}
+use Rattle.cases.specs.Image.{byte_at, bytes_from, number_from, process_of, state_of}
 use Rattle.cases.proofs.FromFn.{from_fn-tabulate}
 use Rattle.cases.proofs.Parts.{part, rest-rest, numbers-part, process-part, chunk-part}
 use Rattle.cases.proofs.image.state_of.Goals as goal
