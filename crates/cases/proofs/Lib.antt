@@ -1,5 +1,4 @@
 -- What the functions' proofs share.
-pub mod FromFn
 pub mod Digests
 pub mod Lines
 pub mod Parts

@@ -54,8 +54,5 @@ pub length_mapped : (X Y : Type 0) (f : X → Y) (l : List X) (n : ℕ) → leng
 length_mapped X Y f l n e = sym (length-map l f) ∙ e
 
 -- the index two and three places on
-pub add_two : (n : ℕ) → n + 2 ≡ suc (suc n)
-add_two n = omega arith
-
 pub add_three : (n : ℕ) → n + 3 ≡ suc (suc (suc n))
 add_three n = omega arith

@@ -5,7 +5,7 @@ use Rattle.machine.specs.Below.{tabulate}
 use Rattle.machine.specs.Setup.{numbered}
 use Rattle.machine.specs.Bytes.{process_bytes}
 use Rattle.cases.specs.Image.{byte_at, bytes_from, number_from, process_of, state_of}
-use Rattle.cases.proofs.FromFn.{from_fn-tabulate}
+use Rattle.machine.proofs.Facts.FromFn.{from_fn-tabulate}
 use Rattle.cases.proofs.Parts.{part, rest-rest, numbers-part, process-part, chunk-part}
 use Rattle.cases.proofs.image.state_of.Goals as goal
 

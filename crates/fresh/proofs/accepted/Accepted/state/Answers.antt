@@ -21,7 +21,7 @@ returns c =
     let accepted = same_answer c.self.view_is c.self.invariant in
     let small : c.open_names.result < 2 ^ 7 = omega (arith, open_64 c.args.self (limits_of c.args.self accepted), c.open_names.ensures) in
     let counters : c.from_fn.result ≡ tabulate 16 (partial_counter_at c.args.self c.args.count)
-    = from_fn-tabulate _ (partial_counter_at c.args.self c.args.count) _ (λ i x q k. search rules) _ 16 0 c.from_fn.ensures.items in
+    = from_fn-tabulate _ (partial_counter_at c.args.self c.args.count) _ 16 (λ i l x q k. search rules) _ 0 c.from_fn.ensures.items in
     let processes : c.from_fn-2.result ≡ tabulate 64 (fresh_process_at c.args.self)
-    = from_fn-tabulate _ (fresh_process_at c.args.self) _ (λ i x q k. search rules) _ 64 no_process c.from_fn-2.ensures.items in
+    = from_fn-tabulate _ (fresh_process_at c.args.self) _ 64 (λ i l x q k. search rules) _ no_process c.from_fn-2.ensures.items in
     rw (to_z_pos w8 small, counters, processes, c.open_names.ensures, c.self.view_is)
