@@ -16,8 +16,8 @@ pub const HEAD_SIZE: usize = 27;
 // The bytes that a file has at most.
 pub const LONGEST: usize = 32768;
 
-// Four bytes at a place, low byte first: document 01 gives the layout by places in the file, here and in `is_entry`. From u32 to usize there
-// is no From, since a usize may have 16 bits: `as` keeps the number, and the check proves it.
+// Four bytes at a place, low byte first: document 01 gives the layout by places in the file, here and in `is_entry`. Between u32 and usize
+// there is no From: `as` keeps the number, and the check proves it.
 #[tactic(auto, unfolding(crate::specs::Layout::word))]
 pub fn word(file: &[u8], at: usize) -> u32
     requires { at + 4 ≤ length file.now }
