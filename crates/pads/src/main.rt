@@ -4,6 +4,9 @@
 use std::env::{Env, FillError};
 use text::file;
 
+// Standard input, for the kit's call, which takes a descriptor: std reads a whole file only onto the heap.
+const STDIN: i32 = 0;
+
 // Says a line where no output of the program is read.
 fn complain(rt: &impl Eprint, line: &str) {
     let _ = rt.eprintln(line);
@@ -13,8 +16,7 @@ fn complain(rt: &impl Eprint, line: &str) {
 fn print_text(rt: &(impl Print + Eprint)) {
     // one byte more than a file may have, so that a longer one shows
     let mut input = [0; 32769];
-    // the kit's call, which takes a descriptor: std reads a whole file only onto the heap
-    let n = io::read_full(libc::STDIN_FILENO, &mut input);
+    let n = io::read_full(STDIN, &mut input);
     // 16,370 events take at most 16 bytes each
     let mut out = [0; 262144];
     let Ok(size) = file::file_text(&input[..n], &mut out) else {

@@ -1,7 +1,7 @@
 -- What is shown are the numbers with the bytes behind them, place by place.
 use Rattle.std.proofs.Common.{◌≡◌, ◌+◌, ◌≤◌, ◌++◌, ◌∙◌, length, get_or, take, rules, length-append}
 use Rattle.machine.specs.Below.{tabulate}
-use Rattle.cases.proofs.FromFn.{from_fn-tabulate}
+use Rattle.machine.proofs.Facts.FromFn.{from_fn-tabulate}
 use Rattle.cases.proofs.Shown.{take_tabulate}
 use Rattle.cases.proofs.line.print_bytes.Goals as goal
 
