@@ -2,5 +2,6 @@
 pub mod Bounds
 pub mod Level
 pub mod Lists
+pub mod Names
 pub mod Shut
 pub mod Verdict

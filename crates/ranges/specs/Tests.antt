@@ -1,6 +1,8 @@
--- What helpers of the range check promise: the numbers past the queue's end, the greatest of numbers, and a node's counter.
-use Rattle.std.specs.Prelude.{◌≡◌, ℕ, ◌<◌, ◌≤◌, Bool, ◌||◌, ◌⊎◌, List, ◌==◌, nat_lt, slice_index}
+-- What helpers of the range check promise: the numbers past the queue's end, the greatest of numbers, a name and a node's counter.
+use Rattle.std.specs.Prelude.{◌≡◌, ℕ, ◌/◌, ◌%◌, ◌^◌, ◌<◌, ◌≤◌, Bool, cond, ◌||◌, ◌⊎◌, List, ◌==◌, nat_lt, slice_index}
+use Rattle.machine.specs.Operations.{bit}
 use Rattle.machine.specs.Range.{counter_test}
+use Rattle.machine.specs.Setup.{names}
 use Rattle.machine.specs.declared.Setup.{Setup}
 
 -- place i of the queue q: 0 past the first m places
@@ -11,6 +13,14 @@ past_test m q i = nat_lt i m || slice_index q i == 0
 pub record Greatest (xs : List ℕ) (e r : ℕ) : Type 0 where
   pub most : (i : ℕ) → i < e → slice_index xs i ≤ r
   pub met : (r ≡ 0) ⊎ ((i : ℕ) × ((i < e) × (slice_index xs i ≡ r)))
+
+-- one more than the greatest name that may be open
+unfoldable pub name_limit : Setup → ℕ
+name_limit c = cond (c.closed / 2 ^ 63 == 0) (names c) 63
+
+-- name m, of those below 63, is open where these are closed; 255, which is none, is looked up as 63 and passes
+abbrev pub shut_test : ℕ → ℕ → Bool
+shut_test closed m = bit (closed % 2 ^ 63) (m % 64) == 0
 
 -- the counter of node v, in its range
 abbrev pub node_test : Setup → List ℕ → ℕ → Bool

@@ -1,36 +1,25 @@
--- A name below k is the place of its own bit; by whether it is below k.
-use Rattle.std.proofs.Common.{ℕ, ◌<◌, ◌%◌, eqb, ltb, ap, arith, mod-eq_of_lt}
-use native.Mathlib.Decide.{dec_lt}
-use mathlib.Core.Bool.{or-false}
-use Rattle.machine.proofs.Rules.{◌≡◌, ◌∙◌, sym, refl, Bool, true, false, ◌&&◌, ◌||◌, or-true, le-ltb}
-use Rattle.machine.specs.Closed.{is_open}
-use Rattle.machine.specs.Operations.{bit}
-use Rattle.machine.specs.Range.{name_test}
-use Rattle.machine.specs.Setup.{names}
-use Rattle.machine.specs.declared.Setup.{Setup}
-use Rattle.machine.proofs.Ranges.{Limits, limits_of}
+-- The two tests together are that of the name.
+use Rattle.std.proofs.Common.{◌+◌, ◌%◌, leb, ap}
+use Rattle.machine.proofs.Rules.{◌≡◌, ◌∙◌, sym, Bool, true, false, ◌&&◌, le-leb, lt-leb}
 use Rattle.fresh.proofs.Sizes.{same_answer}
+use Rattle.ranges.specs.Tests.{name_limit, shut_test}
+use Rattle.ranges.proofs.Names.{name_ranked}
 use Rattle.ranges.proofs.processes.name_in_range.Goals as goal
 
-exchanged : (a b : Bool) → (a || b) ≡ (b || a)
-exchanged true b = sym (or-true b)
-exchanged false b = sym (or-false b)
-
-module _ (s : Setup) (k : Limits s) (m : ℕ) where
-  name_is : (eqb m 255 || (ltb m (names s) && eqb (bit s.closed (m % 64)) 0)) ≡ name_test s m
-  unfolding is_open
-  name_is =
-      exchanged (eqb m 255) (ltb m (names s) && eqb (bit s.closed (m % 64)) 0)
-      ∙ ap (λ (t : Bool). t || eqb m 255) (go (dec_lt m (names s)))
-    where
-      go : Dec (m < names s) → (ltb m (names s) && eqb (bit s.closed (m % 64)) 0) ≡ (ltb m (names s) && is_open s m)
-      go (yes l) =
-          let place : m % 64 ≡ m = mod-eq_of_lt (omega (arith, l, k.k64)) in
-          ap (λ (x : ℕ). ltb m (names s) && eqb (bit s.closed x) 0) place
-      go (no l) = simp (le-ltb m (names s) (omega (arith, l))) refl
-
-pub returns : goal.returns
-returns c =
+pub returns-then-name_rank-name_limit : goal.returns-then-name_rank-name_limit
+returns-then-name_rank-name_limit c =
     let s = c.args.accepted in
-    let k = limits_of s (same_answer c.setup-setup.ensures.value c.setup-setup.ensures.accepted) in
-    rw (c.names.ensures, c.is_open.ensures, c.setup-setup.ensures.value) (name_is s k c.args.p.now.name)
+    let m = c.args.p.now.name in
+    let low : leb ((m + 1) % 256) (name_limit s) ≡ true
+    = le-leb _ _ (rw (c.name_rank.ensures.0, c.name_limit.ensures) at c.if-name_rank-name_limit.true) in
+    let ranked = name_ranked s (same_answer c.setup-setup.ensures.value c.setup-setup.ensures.accepted) m c.name_rank.ensures.1 in
+    (rw c.setup-setup.ensures.value at c.is_open.ensures) ∙ sym (ranked ∙ ap (λ (t : Bool). t && shut_test s.closed m) low)
+
+pub returns-else-name_rank-name_limit : goal.returns-else-name_rank-name_limit
+returns-else-name_rank-name_limit c =
+    let s = c.args.accepted in
+    let m = c.args.p.now.name in
+    let high : leb ((m + 1) % 256) (name_limit s) ≡ false
+    = lt-leb _ _ (rw (c.name_rank.ensures.0, c.name_limit.ensures) at c.if-name_rank-name_limit.false) in
+    let ranked = name_ranked s (same_answer c.setup-setup.ensures.value c.setup-setup.ensures.accepted) m c.name_rank.ensures.1 in
+    rw (c.name_rank.ensures.0, c.name_limit.ensures) (high ∙ sym (ranked ∙ ap (λ (t : Bool). t && shut_test s.closed m) high))
