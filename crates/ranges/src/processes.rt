@@ -27,15 +27,15 @@ fn name_limit(accepted: Accepted) -> u8
     }
 }
 
-// Is name m open? Of names below 63: no name, 255, is looked up as name 63, which the limit settles.
+// Is name m open, of those below 63? No name, 255, is looked up as name 63, which the limit settles.
 fn is_open(closed: u64, m: u8) -> bool
     ensures { result ≡ shut_test closed m }
 {
     (closed::lowest(closed, 63) >> (m % 64)) % 2 == 0
 }
 
-// No name, or an open one below k. Both tests pass for no name, too: who holds a name no processor foresees, and a branch on it took an
-// event of heavy a sixth more time.
+// No name, or an open one below k. Both tests pass for no name, too: who holds a name no processor foresees, and with a branch on it an
+// event of heavy took 393 ns in place of 361.
 fn name_in_range(p: &Process, accepted: Accepted) -> bool
     ensures { result ≡ name_test accepted p.now.name }
 {
@@ -55,7 +55,8 @@ fn process_in_range(p: &Process, accepted: Accepted) -> bool
         && p.steps.checked_add(p.returns).is_some()
 }
 
-// Is each of the processes in use in its ranges?
+// Is each of the processes in use in its ranges? An event of heavy takes 2,360 instructions and 361 ns; with the greatest of each number of
+// all kept in one loop, compared once at its end, it took 2,591 and 332 ns.
 pub(crate) fn processes_in_range(process: &[Process; 64], accepted: Accepted) -> bool
     ensures { result ≡ all_below accepted.processes (λ p. process_test accepted (get_or process.now p no_process)) }
 {

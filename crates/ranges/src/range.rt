@@ -18,8 +18,8 @@ fn gate_in_range(k: u8, a: i8) -> bool
     (-64..=k as i8).contains(&a)
 }
 
-// The greatest of numbers; 0 of none. A fold from 0, since `max` takes the first number apart: tried, an event of light took 1,106
-// instructions in place of 1,081.
+// The greatest of numbers; 0 of none. A fold from 0: `max` takes the first number apart, so that three of 32 are compared one by one, and
+// an event of light took some 25 instructions more.
 fn greatest(xs: &[u8]) -> u8
     ensures { Greatest xs.now (length xs.now) result }
 {
