@@ -55,8 +55,8 @@ fn process_in_range(p: &Process, accepted: Accepted) -> bool
         && p.steps.checked_add(p.returns).is_some()
 }
 
-// Is each of the processes in use in its ranges? An event of heavy takes 2,360 instructions and 361 ns; with the greatest of each number of
-// all kept in one loop, compared once at its end, it took 2,591 and 332 ns.
+// Is each of the processes in use in its ranges? An event of heavy takes 2,360 instructions and 361 ns; with the greatest of each number
+// kept in one loop, and compared once at its end, it took 2,591 and 332 ns.
 pub(crate) fn processes_in_range(process: &[Process; 64], accepted: Accepted) -> bool
     ensures { result ≡ all_below accepted.processes (λ p. process_test accepted (get_or process.now p no_process)) }
 {
