@@ -4,7 +4,6 @@ pub mod Below
 pub mod Tabulated
 pub mod Lists
 pub mod Rows
-pub mod Sums
 pub mod Words
 pub mod Leaves
 pub mod Checks

@@ -3,7 +3,6 @@ pub mod Rules
 pub mod Facts
 pub mod Closed
 pub mod Ranges
-pub mod Signed
 pub mod Sized
 pub mod Places
 pub mod Stores

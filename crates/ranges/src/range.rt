@@ -61,7 +61,7 @@ fn word_open(words: &[u8; 64], accepted: Accepted, r: u8) -> bool
     words[usize::from(r)] & accepted.closed_word(r) == 0
 }
 
-// The segment words in use have no closed bit set.
+// The segment words in use have no closed bit set. A fold stops nowhere: as `all`, 32 words took some 550 instructions in place of 380.
 fn words_open(words: &[u8; 64], accepted: Accepted) -> bool
     ensures { result ≡ all_below (accepted.leaves * accepted.segments) (closed_test accepted words.now) }
 {

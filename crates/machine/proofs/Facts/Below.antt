@@ -3,16 +3,16 @@
 --     all_in, all_at                    the test from its instances, and an instance from the test
 --     all_more, all_fails               one number more, and a test that one number fails
 --     all_same                          two tests that agree on each number
---     all_parts, fails_further          a test in two parts, and one that fails below a lower bound
+--     all_parts                         a test in two parts
 --     length-tabulate, get_or_tabulate    a tabulated list
 -- At a numeral bound the test computes, so that `refl` proves it and `all_at` turns it into a law.
 -- Assumes nothing.
 use mathlib.Core.Bool.{and_assoc}
-use Prim.Native.Nat.{ℕ, zero, suc, ◌+◌, ◌≤◌, ◌<◌}
+use Prim.Native.Nat.{ℕ, zero, suc, ◌+◌, ◌<◌}
 use native.Mathlib.Nat.{add-zero, add-suc, not-suc-le-zero, eq-or-lt_of_le, le_of_suc-le-suc}
 use native.Mathlib.Numerals.{add-one}
 use lib.ListN.{length, get_or, replicate}
-use Rattle.machine.proofs.Rules.{◌≡◌, ◌∙◌, sym, ap, refl, true, false, false≢true, Bool, ◌&&◌, and-false, ⊎_elim, arith}
+use Rattle.machine.proofs.Rules.{◌≡◌, ◌∙◌, sym, ap, refl, true, false, Bool, ◌&&◌, and-false, ⊎_elim, arith}
 use Rattle.machine.specs.Below.{all_below, tabulate}
 use Rattle.machine.proofs.Facts.Tests.{and_left, and_right}
 
@@ -57,14 +57,6 @@ all_parts a (suc b) f =
     ap (λ (x : ℕ). all_below x f) (add-suc a b)
     ∙ ap (λ (t : Bool). f (a + b) && t) (all_parts a b f)
     ∙ sym (and_assoc (f (a + b)) (all_below b (λ i. f (a + i))) (all_below a f))
-
--- a test that fails below a bound fails below a higher one
-pub fails_further : (a n : ℕ) (f : ℕ → Bool) → a ≤ n → all_below a f ≡ false → all_below n f ≡ false
-fails_further a n f l h = go (all_below n f) refl
-  where
-    go : (t : Bool) → all_below n f ≡ t → all_below n f ≡ false
-    go false e = e
-    go true e = absurd (false≢true (sym h ∙ all_in a f (λ i k. all_at n f e i (omega arith))))
 
 pub length-tabulate : {A : Type 0} (n : ℕ) (f : ℕ → A) → length (tabulate n f) ≡ n
 unfolding tabulate

@@ -1,10 +1,10 @@
 -- What stands at a place of a list after a store, and after every element moved up by one: by whether it is that place.
 -- Assumes nothing.
-use mathlib.Core.List.{List, [], ◌∷◌, ◌++◌, map}
+use mathlib.Core.List.{List, [], ◌∷◌, ◌++◌}
 use Prim.Native.Nat.{ℕ, zero, suc, ◌+◌, ◌≤◌, ◌<◌}
 use native.Mathlib.Decide.{ℕ_discrete, dec_lt}
 use native.Mathlib.Nat.{zero-add}
-use lib.ListN.{length, get_or, set, drop, length-set, length-map}
+use lib.ListN.{length, get_or, set, drop, length-set}
 use lib.Seq.{sets, sets-eq, get_or-set_same, get_or-set_other, set_out}
 use Rattle.machine.proofs.Rules.{◌≡◌, ◌∙◌, sym, ap, subst, refl, arith}
 use Rattle.machine.specs.Touches.{Agrees}
@@ -48,11 +48,3 @@ sets-append (x ∷ xs) ys l i j e = sets-append xs ys (set l i x) (suc i) j (ome
 pub sets_start : (xs l : List ℕ) → length xs ≤ length l → sets l 0 xs ≡ xs ++ drop (length xs) l
 sets_start xs l h =
     subst (λ (n : ℕ). sets l 0 xs ≡ xs ++ drop n l) (zero-add (length xs)) (sets-eq xs l 0 (omega (arith, h)))
-
--- the length of an array of records, as code knows it
-pub length_mapped : (X Y : Type 0) (f : X → Y) (l : List X) (n : ℕ) → length (map f l) ≡ n → length l ≡ n
-length_mapped X Y f l n e = sym (length-map l f) ∙ e
-
--- the index two and three places on
-pub add_three : (n : ℕ) → n + 3 ≡ suc (suc (suc n))
-add_three n = omega arith

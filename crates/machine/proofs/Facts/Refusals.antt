@@ -1,18 +1,14 @@
--- No refusal has the number 0, so that a result is refused exactly when its answer is not 0; and what a list of checks decides, of a call
--- that answers as they do. By the refusals one by one. Assumes nothing.
-use mathlib.Core.List.{List}
-use Prim.Native.Nat.{ℕ, ◌<◌}
+-- No refusal has the number 0, so that a result is refused exactly when its answer is not 0: by the refusals one by one. Assumes nothing.
+use Prim.Native.Nat.{◌<◌}
 use lib.Dec.{ltb}
 use Rattle.std.specs.Prelude.{Result, Ok, Err}
 use Rattle.std.specs.Result.{is_err}
 use Rattle.machine.proofs.Rules.{◌≡◌, ◌≢◌, ◌∙◌, sym, ap, refl, true, false, true≢false, arith, ltb-true}
-use Rattle.machine.specs.Check.{Check, checked}
 use Rattle.machine.specs.Refusal.{number, answered}
 use Rattle.machine.specs.declared.refusal.Refusal.{Refusal}
 use Rattle.machine.specs.declared.refusal.Refusal.TheVariants.{Processes, Leaves, Segments, Bits, Names, Stranger, Busy, NotMoving}
 use Rattle.machine.specs.declared.refusal.Refusal.TheVariants.{NoNameHeld, NoDayFile, Contents, Kind, Short, Odd, BrokenState, TooLong, NoRoom}
 use Rattle.machine.specs.declared.refusal.Refusal.TheVariants.{SmallBuffer, ClosedName, NoneOpen}
-use Rattle.machine.proofs.Facts.Checks.{refused_with}
 
 above : (r : Refusal) → ltb 0 (number r) ≡ true
 above Processes = refl
@@ -41,11 +37,6 @@ number_pos r = ltb-true 0 (number r) (above r)
 
 pub number_above : (r : Refusal) → number r ≢ 0
 number_above r e = omega (arith, number_pos r, e)
-
--- refused with r, where the checks answer its number, the outcome is what r is refused with
-pub refused_by : {A : Type 0} (cs : List Check) (refuse : ℕ → A) (accept : A) (r : Refusal) → number r ≡ checked cs (λ a. a) 0
-    → checked cs refuse accept ≡ refuse (number r)
-refused_by cs refuse accept r e = refused_with cs refuse accept (λ z. number_above r (e ∙ z)) ∙ ap refuse (sym e)
 
 -- a result that answers 0 is no refusal
 pub accepted_none : {A : Type 0} {r : Refusal} (o : Result A Refusal) → o ≡ Err r → answered o ≡ 0 → ⊥
