@@ -1,6 +1,7 @@
 -- What the functions' proofs share.
 pub mod Entries
 pub mod Lent
+pub mod Room
 pub mod Texts
 pub mod FileRuns
 pub mod Decimal

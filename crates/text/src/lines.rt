@@ -22,11 +22,12 @@ fn check_room(entries: &[[u8; 4]], room: usize) -> Result<(), Refusal>
     ensures { MatchResult result (λ _. length (flat_map entry_line entries.now) ≤ room)
         (λ why. (why ≡ Refusal.Short) × (room < length (flat_map entry_line entries.now))) }
 {
-    let mut left = room;
-    for entry in entries {
-        left = left.checked_sub(line_len(entry)).ok_or(Refusal::Short)?;
-    }
-    Ok(())
+    entries
+        .iter()
+        .try_fold(room, |left, entry| {
+            left.checked_sub(line_len(entry)).ok_or(Refusal::Short)
+        })
+        .map(|_| ())
 }
 
 // Puts the line of an entry.

@@ -1,12 +1,14 @@
--- Where a line does not fit, all lines do not.
-use Rattle.std.proofs.Common.{[], arith, rules}
-use Rattle.std.proofs.lemmas.List.Folds.{length-flat_map-take}
-use Rattle.text.specs.Lines.{entry_line}
+-- The fold over the entries takes each line's length from the room that is left.
+use Rattle.std.proofs.Common.{◌∙◌, ap, Err, rules, tests}
+use Rattle.std.proofs.lemmas.Result.{err_from_is_err_and}
+use Rattle.text.proofs.Room.{all_fit}
 use Rattle.text.proofs.lines.check_room.Goals as goal
 
-pub returns-in_err-left : goal.returns-in_err-left
-returns-in_err-left c =
-    let es = c.args.entries.now in
-    let i = c.loop-entry.entry-index in
-    let all = length-flat_map-take entry_line es i [] (omega arith) in
-    search rules
+pub returns : goal.returns
+returns c =
+    let d = c.try_fold.ensures.ran in
+    let all =
+    all_fit
+    _ _ _ _ _ (λ v e b h. let p = err_from_is_err_and _ h.1 in (e.0, b, p.1 ∙ ap Err p.2)) (λ left x v q k. search (rules, tests))
+    _ _ _ d.0 d.1 d.2 d.3 d.5 d.6 d.4 in
+    search (rules, all)
