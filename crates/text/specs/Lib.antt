@@ -1,5 +1,4 @@
 -- What the program prints, byte by byte; Controls has texts written out.
-pub mod Text
 pub mod Lines
 pub mod Lent
 pub mod File

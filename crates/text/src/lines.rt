@@ -1,12 +1,13 @@
 // The lines of a journal, one for each four bytes.
 ghost use Rattle.std.specs.Prelude.{◌≡◌, ◌+◌, ◌<◌, ◌≤◌, length, MatchResult};
 ghost use Rattle.std.specs.List.{flat_map};
+ghost use Rattle.lent.specs.Text.{Appends};
 ghost use Rattle.machine.specs.Outcome.{as_written};
 ghost use Rattle.text.specs.Lines.{entry_line, lines};
 ghost use Rattle.text.specs.Lent.{given, lent_after};
-ghost use Rattle.text.specs.Text.{Appends};
 
-use crate::figures::{Text, figure_len};
+use crate::figures::{figure_len, put_figure};
+use lent::Text;
 use machine::Refusal;
 
 // How many bytes the line of an entry takes.
@@ -36,10 +37,10 @@ fn put_line(text: &mut Text, entry: &[u8; 4])
     ensures { Appends text.old text.new (entry_line entry.now) }
 {
     let [answer, stage, name, sum] = *entry;
-    text.put_figure(answer, b' ');
-    text.put_figure(stage, b' ');
-    text.put_figure(name, b' ');
-    text.put_figure(sum, b'\n');
+    put_figure(text, answer, b' ');
+    put_figure(text, stage, b' ');
+    put_figure(text, name, b' ');
+    put_figure(text, sum, b'\n');
 }
 
 // The text of a journal; 13 when the buffer is shorter than the text.
@@ -49,10 +50,7 @@ pub fn journal_text(journal: &[u8], out: &mut [u8]) -> Result<usize, Refusal>
 {
     let (entries, _) = journal.as_chunks();
     check_room(entries, out.len())?;
-    let mut text = Text {
-        buffer: out,
-        size: 0,
-    };
+    let mut text = Text::new(out);
     for entry in entries {
         put_line(&mut text, entry);
     }

@@ -5,7 +5,8 @@ ghost use Rattle.machine.specs.Refusal.{number};
 ghost use Rattle.text.specs.Lines.{refused};
 ghost use Rattle.text.specs.Lent.{given, lent_after};
 
-use crate::figures::{Text, figure_len};
+use crate::figures::{figure_len, put_figure};
+use lent::Text;
 use machine::Refusal;
 
 const REFUSED: &[u8; 8] = b"refused ";
@@ -19,11 +20,8 @@ pub(crate) fn refused_text(why: Refusal, out: &mut [u8]) -> Result<usize, Refusa
     if out.len() < REFUSED.len() + figure_len(n) {
         return Err(Refusal::Short);
     }
-    let mut text = Text {
-        buffer: out,
-        size: 0,
-    };
+    let mut text = Text::new(out);
     text.put(REFUSED);
-    text.put_figure(n, b'\n');
+    put_figure(&mut text, n, b'\n');
     Ok(text.size)
 }

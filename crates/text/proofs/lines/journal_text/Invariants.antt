@@ -2,7 +2,7 @@
 use Rattle.std.proofs.Common.{take}
 use Rattle.std.specs.List.{flat_map}
 use Rattle.text.specs.Lines.{entry_line}
-use Rattle.text.specs.Text.{Appends}
+use Rattle.lent.specs.Text.{Appends}
 use Rattle.text.proofs.lines.journal_text.Given as goal
 
 abbrev pub invariant-loop-entry : goal.invariant-loop-entry

@@ -2,7 +2,7 @@
 use Rattle.std.proofs.Common.{arith}
 use Rattle.text.specs.Lines.{line}
 use Rattle.text.proofs.Entries.{figure-length, line-length}
-use Rattle.text.proofs.Texts.{same_room, appends_append}
+use Rattle.lent.proofs.Texts.{same_room, appends_append}
 use Rattle.text.proofs.lines.put_line.Goals as goal
 
 pub put_figure-requires : goal.put_figure-requires

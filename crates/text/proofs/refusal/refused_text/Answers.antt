@@ -1,10 +1,11 @@
 -- The word and the number put one after the other, where there is room for both.
-use Rattle.std.proofs.Common.{refl, sym, arith, rules}
+use Rattle.std.proofs.Common.{sym, arith, rules}
 use Rattle.machine.specs.Refusal.{number}
 use Rattle.text.specs.Lines.{refused}
 use Rattle.text.proofs.Entries.{figure-length}
 use Rattle.text.proofs.Lent.{given-short, lent_after-short}
-use Rattle.text.proofs.Texts.{same_room, refused-put, given-put, lent_after-put}
+use Rattle.lent.proofs.Texts.{same_room}
+use Rattle.text.proofs.Texts.{refused-put, given-put, lent_after-put}
 use Rattle.text.proofs.refusal.refused_text.Goals as goal
 
 pub returns-then-out-figure_len-clause-value : goal.returns-then-out-figure_len-clause-value
@@ -21,9 +22,9 @@ pub put_figure-requires : goal.put_figure-requires
 put_figure-requires c = grind (arith, figure-length, same_room c.put.ensures)
 
 pub returns-clause-value : goal.returns-clause-value
-returns-clause-value c = given-put refl (rw c.from-n.ensures at (refused-put _ c.put.ensures c.put_figure.ensures))
+returns-clause-value c = given-put c.new-text.ensures.empty c.new-text.ensures.bytes (rw c.from-n.ensures at (refused-put _ c.put.ensures c.put_figure.ensures))
 
 pub returns-clause-buffer : goal.returns-clause-buffer
 returns-clause-buffer c =
-    let put = lent_after-put refl (rw c.from-n.ensures at (refused-put _ c.put.ensures c.put_figure.ensures)) in
+    let put = lent_after-put c.new-text.ensures.empty c.new-text.ensures.bytes (rw c.from-n.ensures at (refused-put _ c.put.ensures c.put_figure.ensures)) in
     search (rules, put)

@@ -1,6 +1,6 @@
 -- Text that is put into a lent buffer from its start.
 use Rattle.std.specs.Prelude.{◌≡◌, ℕ, List, ◌++◌, ◌+◌, ◌≤◌, length, take, drop}
-use Rattle.text.specs.declared.figures.Text.{Text}
+use Rattle.lent.specs.declared.Text.{Text}
 
 -- the old text, more behind it, and then what was there, in the same buffer
 pub record Appends (old new : Text) (more : List ℕ) : Type 0 where

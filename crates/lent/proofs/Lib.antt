@@ -1,0 +1,2 @@
+-- Laws of texts in lent buffers.
+pub mod Texts

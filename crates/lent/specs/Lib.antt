@@ -1,0 +1,2 @@
+-- What a text in a lent buffer is after more was put.
+pub mod Text
