@@ -3,7 +3,7 @@
 #![tactic(auto)]
 
 ghost use Rattle.std.specs.Prelude.{◌≡◌, [], ◌∷◌, suc, ◌+◌, ◌*◌, ◌≤◌, length, replicate, IfOk};
-ghost use Rattle.std.proofs.lemmas.List.Edits.{sets};
+ghost use Rattle.lent.specs.Text.{Appends};
 ghost use Rattle.machine.specs.Kind.{code, request, step};
 ghost use Rattle.machine.specs.Lists.{event_of, list_bytes};
 ghost use Rattle.machine.specs.Outcome.{as_dearest};
@@ -12,6 +12,7 @@ ghost use Rattle.machine.specs.Setup.{height, plain_of};
 ghost use Rattle.dearest_claim.specs.Dearest.{tried, claims, dear, dearest_answer, dearest_list, dearest_buffer};
 
 use fresh::accepted::Accepted;
+use lent::Text;
 use machine::{Dearest, Kind, Numbers, Refusal, Setup};
 
 // The bytes that the lent buffer must have.
@@ -32,46 +33,38 @@ fn tried_of(setup: Accepted) -> u8
     setup.segments.min(1 + (setup.processes - 1) / setup.bits)
 }
 
-// Puts an event, and says where the next one goes. The last such place is the size that the call gives, so no cursor keeps it.
+// Puts an event.
 #[tactic(auto, unfolding(machine::specs::Lists::list_bytes))]
-fn put_event(out: &mut [u8], at: usize, kind: Kind, p: u8) -> usize
-    requires { at + 2 ≤ length out.old }
-    ensures end { result ≡ at + 2 }
-    ensures bytes { out.new ≡ sets out.old at (list_bytes (event_of (code kind) p ∷ [])) }
+fn put_event(text: &mut Text, kind: Kind, p: u8)
+    requires { text.old.size + 2 ≤ length text.old.buffer.now }
+    ensures { Appends text.old text.new (list_bytes (event_of (code kind) p ∷ [])) }
 {
-    out[at] = kind.into();
-    out[at + 1] = p;
-    at + 2
+    text.put(&[kind.into(), p]);
 }
 
-// Puts the claim of a process, its request and so many steps, and says where the next event goes.
-fn put_claim(out: &mut [u8], at: usize, p: u8, steps: u8) -> usize
-    requires { at + 2 * suc steps ≤ length out.old }
-    ensures end { result ≡ at + 2 * suc steps }
-    ensures bytes { out.new
-        ≡ sets out.old at (list_bytes (event_of request p ∷ replicate steps (event_of step p))) }
+// Puts the claim of a process: its request, and so many steps.
+fn put_claim(text: &mut Text, p: u8, steps: u8)
+    requires { text.old.size + 2 * suc steps ≤ length text.old.buffer.now }
+    ensures { Appends text.old text.new
+        (list_bytes (event_of request p ∷ replicate steps (event_of step p))) }
 {
-    let mut end = put_event(out, at, Kind::Request, p);
+    put_event(text, Kind::Request, p);
     for _ in 0..steps {
-        end = put_event(out, end, Kind::Step, p);
+        put_event(text, Kind::Step, p);
     }
-    end
 }
 
-// Puts the claims of the first processes, and says how many bytes they take.
-fn put_claims(out: &mut [u8], setup: Accepted, count: u8) -> usize
-    requires { (count ≤ suc (dear setup)) × (4096 ≤ length out.old) }
-    ensures size { result ≡ length (list_bytes (claims setup count)) }
-    ensures bytes { out.new ≡ sets out.old 0 (list_bytes (claims setup count)) }
+// Puts the claims of the first processes.
+fn put_claims(text: &mut Text, setup: Accepted, count: u8)
+    requires { (count ≤ suc (dear setup)) × (text.old.size + 4096 ≤ length text.old.buffer.now) }
+    ensures { Appends text.old text.new (list_bytes (claims setup count)) }
 {
     let h = height_of(setup);
     let bits = setup.setup().bits;
-    let mut end = 0;
     for p in 0..count {
         let steps = h + 2 + p / bits;
-        end = put_claim(out, end, p, steps);
+        put_claim(text, p, steps);
     }
-    end
 }
 
 // The setup, where it is accepted and the buffer has so many bytes: 1 to 5, then 18.
@@ -96,9 +89,10 @@ pub fn dearest_list(numbers: Numbers, out: &mut [u8]) -> Result<Dearest, Refusal
     let room = out.len();
     let setup = checked(numbers, room)?;
     let segments = tried_of(setup);
-    let written = put_claims(out, setup, (segments - 1) * numbers.bits + 1);
+    let mut text = Text::new(out);
+    put_claims(&mut text, setup, (segments - 1) * numbers.bits + 1);
     Ok(Dearest {
         figure: height_of(setup) + segments,
-        size: written,
+        size: text.size,
     })
 }

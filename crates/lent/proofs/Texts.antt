@@ -1,9 +1,10 @@
 -- Texts put behind one another are one text put there: byte by byte. Assumes nothing.
 --     same_room                        the buffer's length stays
 --     appends_none, appends_append     no text; two texts
+--     size-start, fits-start, bytes-start     a text at the start
 use mathlib.Core.List.{List, [], ◌++◌}
 use Prim.Native.Nat.{ℕ, ◌≤◌}
-use lib.ListN.{length, length-append, length-take, length-drop, take-append-drop}
+use lib.ListN.{length, drop, length-append, length-take, length-drop, take-append-drop}
 use Rattle.std.proofs.Common.{◌≡◌, ◌∙◌, refl, sym, arith, rules}
 use Rattle.std.proofs.lemmas.List.{same_lists, places}
 use Rattle.lent.specs.Text.{Appends}
@@ -28,3 +29,13 @@ module _ {a b : Text} {xs : List ℕ} (p : Appends a b xs) where
     room = omega (arith, q.room, same_room);
     bytes = rw (q.bytes, p.bytes) (same_lists _ _ (search (rules, places)) (λ k d h. grind (arith, places)));
   }
+
+module _ {a b : Text} {text lent : List ℕ} (start : a.size ≡ 0) (whole : a.buffer.now ≡ lent) (p : Appends a b text) where
+  pub size-start : b.size ≡ length text
+  size-start = omega (arith, start, p.size)
+
+  pub fits-start : length text ≤ length lent
+  fits-start = rw (← whole) (omega (arith, size-start, p.room))
+
+  pub bytes-start : b.buffer.now ≡ text ++ drop (length text) lent
+  bytes-start = p.bytes ∙ rw (start, size-start, whole) refl

@@ -5,7 +5,7 @@ use mathlib.Core.List.{List}
 use Prim.Native.Nat.{ℕ, ◌≤◌}
 use lib.ListN.{length}
 use Rattle.std.specs.Prelude.{Ok}
-use Rattle.lent.proofs.Texts.{appends_append}
+use Rattle.lent.proofs.Texts.{appends_append, size-start, fits-start, bytes-start}
 use Rattle.lent.specs.Text.{Appends}
 use Rattle.lent.specs.declared.Text.{Text}
 use Rattle.machine.specs.Outcome.{as_written}
@@ -20,14 +20,8 @@ unfolding refused
 refused-put n p q = appends_append p q
 
 module _ {a b : Text} {text lent : List ℕ} (start : a.size ≡ 0) (whole : a.buffer.now ≡ lent) (p : Appends a b text) where
-  size-put : b.size ≡ length text
-  size-put = omega (arith, start, p.size)
-
-  fits : length text ≤ length lent
-  fits = rw (← whole) (omega (arith, size-put, p.room))
-
   pub given-put : as_written (Ok b.size) ≡ given text lent
-  given-put = rw size-put (sym (given-filled text lent fits))
+  given-put = rw (size-start start whole p) (sym (given-filled text lent (fits-start start whole p)))
 
   pub lent_after-put : b.buffer.now ≡ lent_after text lent
-  lent_after-put = p.bytes ∙ rw (start, size-put, whole) (sym (lent_after-filled text lent fits))
+  lent_after-put = bytes-start start whole p ∙ sym (lent_after-filled text lent (fits-start start whole p))

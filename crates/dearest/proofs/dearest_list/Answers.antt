@@ -3,19 +3,19 @@ use mathlib.Core.List.{List}
 use Prim.Native.Nat.{ℕ, suc, ◌+◌, ◌*◌, ◌-◌, ◌≤◌}
 use native.Mathlib.Numerals.{add-one}
 use lib.ListN.{length}
-use lib.Seq.{sets}
 use Rattle.std.proofs.lemmas.Result.{err_from_is_err_and}
-use Rattle.machine.proofs.Facts.Lists.{sets_start}
+use Rattle.lent.proofs.Texts.{size-start, bytes-start}
+use Rattle.lent.specs.Text.{Appends}
+use Rattle.lent.specs.declared.Text.{Text}
 use Rattle.machine.proofs.Facts.Refusals.{number_above}
 use Rattle.machine.proofs.Ranges.{Limits, limits_of}
-use Rattle.machine.proofs.Rules.{◌≡◌, ◌∙◌, sym, ap, arith, rules}
+use Rattle.machine.proofs.Rules.{◌≡◌, ◌∙◌, sym, ap, subst, arith, rules}
 use Rattle.machine.specs.Lists.{list_bytes}
 use Rattle.machine.specs.Setup.{plain_of, setup_answer, height}
 use Rattle.machine.specs.declared.Setup.{Setup}
 use Rattle.dearest_claim.proofs.Call.{passed_setup, passed_buffer, refused_list, accepted_list}
 use Rattle.dearest_claim.proofs.Sizes.{dear_known, figure-byte}
 use Rattle.dearest_claim.specs.Dearest.{tried, claims, dear, dearest_bytes, dearest_answer, dearest_of, dearest_list, dearest_buffer}
-use Rattle.dearest.proofs.Writing.{claims_fit}
 use Rattle.dearest.proofs.dearest_list.Goals as goal
 
 -- past the checks, of the setup that they gave: it is accepted, and so many processes claim
@@ -44,11 +44,12 @@ overflow_sub-segments c =
     let known = checked_known (plain_of c.args.numbers) _ _ (sym c.in_ok-setup.ensures.answer) tries in
     omega (arith, c.tried_of-segments.ensures, ap tried c.in_ok-setup.ensures.setup, known.limits.g1)
 
-pub put_claims-written-requires : goal.put_claims-written-requires
-put_claims-written-requires c =
+pub put_claims-requires : goal.put_claims-requires
+put_claims-requires c =
     let tries = c.tried_of-segments.ensures ∙ ap tried c.in_ok-setup.ensures.setup in
     let known = checked_known (plain_of c.args.numbers) _ _ (sym c.in_ok-setup.ensures.answer) tries in
-    (omega (arith, known.counted, ap dear c.in_ok-setup.ensures.setup), known.long)
+    let whole = ap (λ (lent : List ℕ). length lent) c.new-text.ensures.bytes in
+    (omega (arith, known.counted, ap dear c.in_ok-setup.ensures.setup), omega (arith, known.long, c.new-text.ensures.empty, whole))
 
 pub returns-in_err-setup-clause-list : goal.returns-in_err-setup-clause-list
 returns-in_err-setup-clause-list c =
@@ -77,9 +78,8 @@ overflow_add-result c =
     )
 
 -- what the parts give, of the setup of the four numbers
-module _ (s s' : Setup) (same : s' ≡ s) (out new : List ℕ) (h t n : ℕ) (is : h ≡ height s'.leaves) (tries : t ≡ tried s')
-    (size : n ≡ length (list_bytes (claims s' ((t - 1) * s.bits + 1))))
-    (bytes : new ≡ sets out 0 (list_bytes (claims s' ((t - 1) * s.bits + 1))))
+module _ (s s' : Setup) (same : s' ≡ s) (out : List ℕ) (h t : ℕ) (is : h ≡ height s'.leaves) (tries : t ≡ tried s') {a b : Text}
+    (start : a.size ≡ 0) (whole : a.buffer.now ≡ out) (put : Appends a b (list_bytes (claims s' ((t - 1) * s.bits + 1))))
     (accepted : dearest_answer s (length out) ≡ 0) where
   known : Checked s (length out) t ((t - 1) * s.bits + 1)
   known = checked_known s (length out) t accepted (tries ∙ ap tried same)
@@ -87,25 +87,27 @@ module _ (s s' : Setup) (same : s' ≡ s) (out new : List ℕ) (h t n : ℕ) (is
   written : list_bytes (claims s' ((t - 1) * s.bits + 1)) ≡ dearest_bytes s
   written = ap (λ (c : Setup). list_bytes (claims c ((t - 1) * s.bits + 1))) same ∙ ap (λ (n : ℕ). list_bytes (claims s n)) known.counted
 
-  list : dearest_of 0 (h + t) n ≡ dearest_list s out
+  all : Appends a b (dearest_bytes s)
+  all = subst (Appends a b) written put
+
+  list : dearest_of 0 (h + t) b.size ≡ dearest_list s out
   list =
-      ap (λ (h : ℕ). dearest_of 0 (h + t) n) (is ∙ ap (λ (s : Setup). height s.leaves) same)
-      ∙ ap (λ (t : ℕ). dearest_of 0 (height s.leaves + t) n) (tries ∙ ap tried same)
-      ∙ ap (dearest_of 0 (height s.leaves + tried s)) (size ∙ ap length written)
+      ap (λ (h : ℕ). dearest_of 0 (h + t) b.size) (is ∙ ap (λ (s : Setup). height s.leaves) same)
+      ∙ ap (λ (t : ℕ). dearest_of 0 (height s.leaves + t) b.size) (tries ∙ ap tried same)
+      ∙ ap (dearest_of 0 (height s.leaves + tried s)) (size-start start whole all)
       ∙ (accepted_list s out accepted).0
 
-  fits : length (dearest_bytes s) ≤ length out
-  fits = omega (arith, claims_fit s known.accepted (suc (dear s)) (omega arith), known.long)
-
-  buffer : new ≡ dearest_buffer s out
-  buffer = bytes ∙ ap (sets out 0) written ∙ sets_start (dearest_bytes s) out fits ∙ (accepted_list s out accepted).1
+  buffer : b.buffer.now ≡ dearest_buffer s out
+  buffer = bytes-start start whole all ∙ (accepted_list s out accepted).1
 
 pub returns-clause-list : goal.returns-clause-list
 returns-clause-list c =
-    list _ _ c.in_ok-setup.ensures.setup _ _ _ _ _ c.height_of.ensures c.tried_of-segments.ensures
-    c.put_claims-written.ensures.size c.put_claims-written.ensures.bytes (sym c.in_ok-setup.ensures.answer)
+    list _ _ c.in_ok-setup.ensures.setup _ _ _ c.height_of.ensures c.tried_of-segments.ensures
+    c.new-text.ensures.empty c.new-text.ensures.bytes c.put_claims.ensures (sym c.in_ok-setup.ensures.answer)
 
 pub returns-clause-buffer : goal.returns-clause-buffer
 returns-clause-buffer c =
-    buffer _ _ c.in_ok-setup.ensures.setup _ _ _ _ _ c.height_of.ensures c.tried_of-segments.ensures
-    c.put_claims-written.ensures.size c.put_claims-written.ensures.bytes (sym c.in_ok-setup.ensures.answer)
+    let wrote =
+    buffer _ _ c.in_ok-setup.ensures.setup _ _ _ c.height_of.ensures c.tried_of-segments.ensures
+    c.new-text.ensures.empty c.new-text.ensures.bytes c.put_claims.ensures (sym c.in_ok-setup.ensures.answer) in
+    search (rules, wrote)
