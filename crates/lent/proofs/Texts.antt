@@ -2,9 +2,10 @@
 --     same_room                        the buffer's length stays
 --     appends_none, appends_append     no text; two texts
 --     size-start, fits-start, bytes-start     a text at the start
+--     fitting-size, fitting-bytes     as much of a text as fits, by the rest of the buffer
 use mathlib.Core.List.{List, [], ◌++◌}
-use Prim.Native.Nat.{ℕ, ◌≤◌}
-use lib.ListN.{length, drop, length-append, length-take, length-drop, take-append-drop}
+use Prim.Native.Nat.{ℕ, ◌+◌, ◌-◌, ◌≤◌, min}
+use lib.ListN.{length, take, drop, length-append, length-take, length-drop, take-append-drop}
 use Rattle.std.proofs.Common.{◌≡◌, ◌∙◌, refl, sym, arith, rules}
 use Rattle.std.proofs.lemmas.List.{same_lists, places}
 use Rattle.lent.specs.Text.{Appends}
@@ -39,3 +40,13 @@ module _ {a b : Text} {text lent : List ℕ} (start : a.size ≡ 0) (whole : a.b
 
   pub bytes-start : b.buffer.now ≡ text ++ drop (length text) lent
   bytes-start = p.bytes ∙ rw (start, size-start, whole) refl
+
+module _ {a b : Text} (more : List ℕ) (p : Appends a b (take (length a.buffer.now - a.size) more)) where
+  pub fitting-size : b.size ≡ a.size + min (length more) (length (drop a.size a.buffer.now))
+  fitting-size = omega (arith, p.size, length-take (length a.buffer.now - a.size) more, length-drop a.size a.buffer.now)
+
+  pub fitting-bytes :
+      b.buffer.now
+      ≡ take a.size a.buffer.now
+      ++ (take (length (drop a.size a.buffer.now)) more ++ drop (length more) (drop a.size a.buffer.now))
+  fitting-bytes = p.bytes ∙ same_lists _ _ (search (rules, places)) (λ k d h. grind (arith, places))

@@ -1,7 +1,7 @@
 // A lent buffer that is filled from its start.
 #![tactic(auto)]
 
-ghost use Rattle.std.specs.Prelude.{◌≡◌, ◌+◌, ◌≤◌, length};
+ghost use Rattle.std.specs.Prelude.{◌≡◌, ◌+◌, ◌-◌, ◌≤◌, length, take};
 ghost use Rattle.lent.specs.Text.{Appends};
 
 // What is put into a buffer, from its start.
@@ -29,5 +29,14 @@ impl<'a> Text<'a> {
         let end = self.size + bytes.len();
         self.buffer[self.size..end].copy_from_slice(bytes);
         self.size = end;
+    }
+
+    // Puts as many of the bytes behind those that are there as fit. The others are dropped.
+    pub fn put_fitting(&mut self, bytes: &[u8])
+        requires { self.old.size ≤ length self.old.buffer.now }
+        ensures { Appends self.old self.new (take (length self.old.buffer.now - self.old.size) bytes.now) }
+    {
+        let fitting = bytes.len().min(self.buffer.len() - self.size);
+        self.put(&bytes[..fitting]);
     }
 }

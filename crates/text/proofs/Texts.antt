@@ -2,14 +2,13 @@
 --     refused-put                   the line of a refusal
 --     given-put, lent_after-put     a text at the start
 use mathlib.Core.List.{List}
-use Prim.Native.Nat.{ℕ, ◌≤◌}
-use lib.ListN.{length}
+use Prim.Native.Nat.{ℕ}
 use Rattle.std.specs.Prelude.{Ok}
 use Rattle.lent.proofs.Texts.{appends_append, size-start, fits-start, bytes-start}
 use Rattle.lent.specs.Text.{Appends}
 use Rattle.lent.specs.declared.Text.{Text}
 use Rattle.machine.specs.Outcome.{as_written}
-use Rattle.machine.proofs.Rules.{◌≡◌, ◌∙◌, sym, arith}
+use Rattle.machine.proofs.Rules.{◌≡◌, ◌∙◌, sym}
 use Rattle.text.specs.Lent.{given, lent_after}
 use Rattle.text.specs.Lines.{newline, figure, refused_word, refused}
 use Rattle.text.proofs.Lent.{given-filled, lent_after-filled}
