@@ -18,14 +18,14 @@ use machine::{Dearest, Kind, Numbers, Refusal, Setup};
 // The bytes that the lent buffer must have.
 const ROOM: usize = 4096;
 
-// The height of the tree, whose leaves are a power of 2.
+// The height of the tree, whose leaves are a power of 2: asked for twice. It fits a byte, and the check proves it.
 fn height_of(setup: Accepted) -> u8
     ensures { result ≡ height setup.leaves }
 {
     setup.setup().leaves.trailing_zeros() as u8
 }
 
-// How many segments the dearest claim tries: the smaller of g and 1 + (n - 1) / b.
+// How many segments the dearest claim tries: the smaller of g and 1 + (n - 1) / b. By a name of its own, as in the definitions.
 fn tried_of(setup: Accepted) -> u8
     ensures { result ≡ tried setup }
 {

@@ -5,3 +5,4 @@ pub mod Lists
 pub mod Names
 pub mod Shut
 pub mod Verdict
+pub mod Ranks

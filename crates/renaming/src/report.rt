@@ -6,7 +6,7 @@ ghost use Rattle.machine.specs.Reports.{positive_part, gate_report};
 use machine::{GateReport, Refusal, State};
 use ranges::range;
 
-// A number from -64 to 64, or 0 when it is negative.
+// A number from -64 to 64, or 0 when it is negative: one call of the library, made twice.
 #[tactic(auto, unfolding(machine::specs::Reports::positive_part))]
 fn positive_part(a: i8) -> u8
     ensures { result ≡ positive_part a }

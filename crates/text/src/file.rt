@@ -12,7 +12,7 @@ use day_file::reader;
 use machine::{Refusal, State};
 use renaming::list;
 
-// Runs events, and puts the lines of their journal.
+// Runs events on a state in range, which stays a clause as in `operations`, and puts the lines of their journal.
 fn events_text(state: &mut State, events: &[u8], out: &mut [u8]) -> Result<usize, Refusal>
     requires even { length events.now % 2 ≡ 0 }
     requires few { 2 * length events.now ≤ 65536 }

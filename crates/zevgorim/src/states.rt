@@ -1,5 +1,5 @@
 // Setups, events, lists and the gate report, for C. A number of a setup or of an event comes in 32 bits and is refused where it is too
-// large, and a count comes in 64: none is cut.
+// large, and a count comes in 64: none is cut. A call each, since document 01 names each and C has no generic one.
 ghost use Rattle.std.specs.Prelude.{◌≡◌};
 ghost use Rattle.machine.specs.Event;
 ghost use Rattle.machine.specs.Kind.{request as Kind·request, step as Kind·step, release as Kind·release};

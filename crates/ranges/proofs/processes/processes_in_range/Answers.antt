@@ -1,24 +1,52 @@
--- Each of the processes in use passes its test where they all do.
-use Rattle.std.proofs.Common.{◌∙◌, ◌≤◌, length, take, arith, rules, tests}
-use Rattle.std.proofs.lemmas.Iterator.{YieldsList-from_slice}
-use Rattle.std.proofs.lemmas.Iterator.Search.{all_from_yields_List}
+-- A closed name puts a process out of range; where none is closed the numbers decide.
+use Rattle.std.proofs.Common.{ℕ, ◌∙◌, ◌≤◌, length, take, get_or, ap, sym, arith}
+use Rattle.machine.specs.Below.{all_below}
+use Rattle.machine.proofs.Rules.{eqb-false}
 use Rattle.machine.specs.Range.{process_test}
 use Rattle.machine.specs.State.{no_process}
 use Rattle.machine.proofs.Ranges.{limits_of}
-use Rattle.ranges.proofs.Lists.{list_all_below}
+use Rattle.ranges.proofs.Ranks.{all_shown, shut_out, numbers_decide}
 use Rattle.ranges.proofs.Verdict.{front_tests}
 use Rattle.ranges.proofs.processes.processes_in_range.Goals as goal
+use Rattle.ranges.proofs.processes.processes_in_range.Goals.{then-setup-eq0, else-setup-eq0}
 
-pub shared_ref_as_front-iter : goal.shared_ref_as_front-iter
-shared_ref_as_front-iter c = rw c.from.ensures (limits_of c.setup.result c.setup.ensures.accepted).n64
+pub shared_ref_as_front-used : goal.shared_ref_as_front-used
+shared_ref_as_front-used c = rw c.from.ensures (limits_of c.setup-setup.result c.setup-setup.ensures.accepted).n64
 
-pub returns : goal.returns
-returns c =
-    let s = c.args.accepted in
+pub returns-then-names_open : goal.returns-then-names_open
+returns-then-names_open c =
+    let s = c.setup-setup.result in
+    let accepted = c.setup-setup.ensures.accepted in
     let ps = c.args.process.now in
-    let k = limits_of c.setup.result c.setup.ensures.accepted in
-    let few : s.processes ≤ length ps = omega (arith, (rw c.setup.ensures.value at k.n64)) in
-    all_from_yields_List (process_test s) _ _ _ c.all.ensures.ran (YieldsList-from_slice (take s.processes ps) (search rules))
-    (λ p t f k. search (rules, tests))
-    ∙ list_all_below (process_test s) no_process (take s.processes ps)
-    ∙ front_tests (process_test s) no_process s.processes ps few
+    let few : c.from.result ≤ length ps = omega (arith, c.from.ensures, (limits_of s accepted).n64) in
+    let used = take c.from.result ps in
+    let all = ap (λ (n : ℕ). all_below n (λ p. process_test s (get_or ps p no_process))) c.from.ensures in
+    let n = length used in
+    rw (sym c.setup-setup.ensures.value)
+    (rw (sym c.setup-setup.ensures.value) at c.numbers_in_range.ensures.tests
+    ∙ numbers_decide s accepted used n
+    (elim c.if-setup-eq0.branch [
+      | then-setup-eq0 w ↦ all_shown s accepted used n w.if-setup-eq0.true
+      | else-setup-eq0 w ↦ sym w.names_open.ensures ∙ sym w.value-is ∙ c.if-names_open.true
+    ])
+    c.numbers_in_range.ensures.bytes
+    ∙ front_tests (process_test s) no_process c.from.result ps few
+    ∙ all)
+
+pub returns-else-names_open : goal.returns-else-names_open
+returns-else-names_open c =
+    let s = c.setup-setup.result in
+    let accepted = c.setup-setup.ensures.accepted in
+    let ps = c.args.process.now in
+    let few : c.from.result ≤ length ps = omega (arith, c.from.ensures, (limits_of s accepted).n64) in
+    let used = take c.from.result ps in
+    let all = ap (λ (n : ℕ). all_below n (λ p. process_test s (get_or ps p no_process))) c.from.ensures in
+    rw (sym c.setup-setup.ensures.value)
+    (c.if-names_open.false
+    ∙ (elim c.if-setup-eq0.branch [
+      | then-setup-eq0 w ↦ absurd (eqb-false _ 0 (sym w.value-is ∙ c.if-names_open.false) w.if-setup-eq0.true)
+      | else-setup-eq0 w ↦
+          shut_out s accepted used (length used) (sym w.names_open.ensures ∙ sym w.value-is ∙ c.if-names_open.false)
+          ∙ front_tests (process_test s) no_process c.from.result ps few
+          ∙ all
+    ]))

@@ -1,0 +1,43 @@
+-- With each turn what was found takes in one process more.
+use Rattle.std.proofs.Common.{◌≡◌, ◌∙◌, Bool, ◌&&◌, get_or, refl, arith, add-one, below_none, below_more}
+use Rattle.machine.specs.Below.{all_below}
+use Rattle.machine.specs.State.{no_process}
+use Rattle.machine.proofs.Ranges.{limits_of}
+use Rattle.fresh.proofs.Sizes.{same_answer, leaves_1, leaves_16}
+use Rattle.ranges.proofs.Ranks.{found_none, one_more, found_one}
+use Rattle.ranges.proofs.processes.numbers_in_range.Goals as goal
+
+both-sides : {a b x y : Bool} → a ≡ x → b ≡ y → (a && b) ≡ (x && y)
+both-sides e f = rw (e, f) refl
+
+pub loop-p-init : goal.loop-p-init
+unfolding all_below
+loop-p-init c =
+    let k = limits_of c.args.accepted (same_answer c.setup-setup.ensures.value c.setup-setup.ensures.accepted) in
+    record { passed = found_none c.args.accepted k.g1; bytes = below_none _ }
+
+pub loop-p-preserved : goal.loop-p-preserved
+unfolding all_below
+loop-p-preserved c =
+    let s = c.args.accepted in
+    let loop = c.loop-p in
+    let h = get_or c.args.process.now loop.p-index no_process in
+    let k = limits_of s (same_answer c.setup-setup.ensures.value c.setup-setup.ensures.accepted) in
+    let node = c.node_rank.ensures s.leaves (leaves_1 k) (leaves_16 k) in
+    let name = c.name_rank.ensures in
+    let v = c.node_rank.result in
+    let m = c.name_rank.result in
+    let x = c.sum_fits-fits.result in
+    let one = found_one s h v m x node name.0 c.sum_fits-fits.ensures in
+    record {
+      passed = rw (c.max-stage.ensures, c.max-node.ensures, c.max-segment.ensures, c.max-name.ensures, add-one)
+          (one_more s loop.stage loop.node loop.segment loop.name loop.fits h.stage v h.segment m x
+          ∙ both-sides one loop.invariant.passed);
+      bytes = below_more _ _ loop.invariant.bytes name.1;
+    }
+
+pub overflow_mul-setup : goal.overflow_mul-setup
+overflow_mul-setup c = omega (arith, leaves_16 (limits_of c.setup-setup.result c.setup-setup.ensures.accepted))
+
+pub overflow_sub-setup : goal.overflow_sub-setup
+overflow_sub-setup c = omega (arith, leaves_1 (limits_of c.setup-setup.result c.setup-setup.ensures.accepted))
