@@ -3,38 +3,45 @@
 --     line-more, line-end    a number more is a space and its decimal more; the line feed behind all numbers
 -- Assumes nothing.
 use mathlib.Core.List.{List, [], ◌∷◌, ◌++◌, append-nil, append_assoc}
-use Prim.Native.Nat.{ℕ, ◌+◌, ◌^◌, ◌≤◌, ◌<◌}
+use Prim.Native.Nat.{ℕ, ◌+◌, ◌-◌, ◌^◌, ◌≤◌, ◌<◌}
 use lib.ListN.{length, get_or, take, drop, length-append, length-drop}
 use lib.Seq.{take-nil, take_all}
 use Rattle.machine.proofs.Rules.{◌≡◌, ◌∙◌, sym, ap, refl, arith, rules}
 use Rattle.std.proofs.lemmas.List.{same_lists, places, take_more}
 use Rattle.std.specs.Fmt.{decimal}
+use Rattle.lent.specs.Text.{Appends}
+use Rattle.lent.specs.declared.Text.{Text}
+use Rattle.lent.proofs.Texts.{fitting-size, fitting-bytes}
 use Rattle.cases.proofs.Decimals.{figure-decimal}
 use Rattle.cases.specs.Line.{figure, figures, line_of, size_in, put_in}
 
--- so many bytes of the buffer o hold the text, as far as it fits, and the others are untouched
-pub record Holds (o text bytes : List ℕ) (size : ℕ) : Type 0 where
-  pub size_is : size ≡ size_in o text
-  pub bytes_are : bytes ≡ put_in o text
+-- a text in a buffer that was o holds the text xs, as far as it fits, and the bytes behind are untouched
+pub record Holds (o xs : List ℕ) (a : Text) : Type 0 where
+  pub size_is : a.size ≡ size_in o xs
+  pub bytes_are : a.buffer.now ≡ put_in o xs
 
-pub put_none : (o : List ℕ) → Holds o [] o 0
-put_none o = record { size_is = omega arith; bytes_are = rw (take-nil {A = ℕ} (length o)) refl }
+pub put_none : {o : List ℕ} {a : Text} → a.size ≡ 0 → a.buffer.now ≡ o → Holds o [] a
+put_none {o} empty whole = record {
+  size_is = omega (arith, empty);
+  bytes_are = whole ∙ rw (take-nil {A = ℕ} (length o)) refl;
+}
 
-length-put_in : (o text : List ℕ) → length (put_in o text) ≡ length o
-length-put_in o text = search (rules, places)
+length-put_in : (o xs : List ℕ) → length (put_in o xs) ≡ length o
+length-put_in o xs = search (rules, places)
 
-put-append : (o text more : List ℕ)
-    → let bytes = put_in o text in let size = size_in o text in
-    take size bytes ++ put_in (drop size bytes) more ≡ put_in o (text ++ more)
-put-append o text more = same_lists _ _ (search (rules, places)) (λ k d h. grind (arith, places))
+put-append : (o xs more : List ℕ)
+    → let bytes = put_in o xs in let size = size_in o xs in
+    take size bytes ++ put_in (drop size bytes) more ≡ put_in o (xs ++ more)
+put-append o xs more = same_lists _ _ (search (rules, places)) (λ k d h. grind (arith, places))
 
-module _ {o text bytes : List ℕ} {size : ℕ} (h : Holds o text bytes size) where
-  pub put_more : (more : List ℕ) {after : List ℕ} {end : ℕ} → end ≡ size + size_in (drop size bytes) more
-      → after ≡ take size bytes ++ put_in (drop size bytes) more → Holds o (text ++ more) after end
-  put_more more e b = record {
-    size_is =
-        omega (arith, e, h.size_is, length-drop size bytes, length-append text more, ap length h.bytes_are ∙ length-put_in o text);
-    bytes_are = rw (b, h.bytes_are, h.size_is) (put-append o text more);
+module _ {o xs : List ℕ} {a : Text} (h : Holds o xs a) where
+  same_room : length a.buffer.now ≡ length o
+  same_room = ap length h.bytes_are ∙ length-put_in o xs
+
+  pub put_more : (more : List ℕ) {b : Text} → Appends a b (take (length a.buffer.now - a.size) more) → Holds o (xs ++ more) b
+  put_more more p = record {
+    size_is = omega (arith, fitting-size more p, h.size_is, length-drop a.size a.buffer.now, length-append xs more, same_room);
+    bytes_are = rw (fitting-bytes more p, h.bytes_are, h.size_is) (put-append o xs more);
   }
 
 figures-push : (ns : List ℕ) (n : ℕ) → figures (ns ++ n ∷ []) ≡ figures ns ++ figure n

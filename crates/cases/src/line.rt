@@ -1,32 +1,11 @@
 // A line of output.
-ghost use Rattle.std.specs.Prelude.{◌≡◌, ◌+◌, ◌≤◌, ◌++◌, length, get_or, take, drop, OnOk};
+ghost use Rattle.std.specs.Prelude.{◌≡◌, ◌≤◌, ◌++◌, length, get_or, take, OnOk};
 ghost use Rattle.std.specs.Io.KnownBytes.{Appends};
 ghost use Rattle.cases.specs.Line.{line_of, size_in, put_in};
 
+use lent::Text;
 use std::array;
 use std::io::{self, ErrorKind, Write};
-
-// A buffer that is filled from its start; what it has no room for is dropped.
-#[derive(Drop)]
-struct Line<'a> {
-    bytes: &'a mut [u8],
-    size: usize,
-    ghost within: { size ≤ length bytes.now },
-}
-
-impl Line<'_> {
-    // The rest of the buffer takes as much of the text as fits.
-    fn put(&mut self, text: &[u8])
-        ensures same_buffer { self.new.bytes.ghost_name ≡ self.old.bytes.ghost_name }
-        ensures size { self.new.size ≡ self.old.size + size_in (drop self.old.size self.old.bytes.now) text.now }
-        ensures bytes { self.new.bytes.now
-            ≡ take self.old.size self.old.bytes.now ++ put_in (drop self.old.size self.old.bytes.now) text.now }
-    {
-        let n = text.len().min(self.bytes.len() - self.size);
-        self.bytes[self.size..self.size + n].copy_from_slice(&text[..n]);
-        self.size += n;
-    }
-}
 
 // Puts a word, numbers and a line feed at a buffer's start, and answers how many bytes they take there. The last clause follows from the
 // others, and is stated for whoever lends that many bytes on.
@@ -35,13 +14,13 @@ pub fn put_line(bytes: &mut [u8], word: &[u8], numbers: &[u64]) -> usize
     ensures bytes { bytes.new ≡ put_in bytes.old (line_of word.now numbers.now) }
     ensures prefix_len { (result ≤ length bytes.new) × (result ≡ length (take result bytes.new)) }
 {
-    let mut line = Line { bytes, size: 0 };
-    line.put(word);
+    let mut line = Text::new(bytes);
+    line.put_fitting(word);
     for n in numbers {
-        line.put(b" ");
-        line.put(itoa::Buffer::new().format(*n).as_bytes());
+        line.put_fitting(b" ");
+        line.put_fitting(itoa::Buffer::new().format(*n).as_bytes());
     }
-    line.put(b"\n");
+    line.put_fitting(b"\n");
     line.size
 }
 

@@ -8,15 +8,15 @@ pub loop-n-init : goal.loop-n-init
 unfolding figures
 loop-n-init c = record {
   same_buffer = search rules;
-  so_far = rw append-nil (put_more (put_none _) _ c.put.ensures.size c.put.ensures.bytes);
+  so_far = rw append-nil (put_more (put_none c.new-line.ensures.empty c.new-line.ensures.bytes) _ c.put_fitting.ensures);
 }
 
 pub loop-n-preserved : goal.loop-n-preserved
 loop-n-preserved c =
     let ns = c.args.numbers.now in
     let i = c.loop-n.n-index in
-    let spaced = put_more c.loop-n.invariant.so_far (32 ∷ []) c.put-in-loop-n.ensures.size c.put-in-loop-n.ensures.bytes in
-    let shown = put_more spaced _ c.put-in-loop-n-2.ensures.size c.put-in-loop-n-2.ensures.bytes in
+    let spaced = put_more c.loop-n.invariant.so_far (32 ∷ []) c.put_fitting-in-loop-n.ensures in
+    let shown = put_more spaced _ c.put_fitting-in-loop-n-2.ensures in
     let number = c.as_bytes.ensures.value ∙ c.format.ensures.text in
     record {
       same_buffer = search rules;
@@ -25,11 +25,11 @@ loop-n-preserved c =
 
 pub returns-clause-size : goal.returns-clause-size
 returns-clause-size c =
-    let all = put_more c.loop-n.invariant.so_far (10 ∷ []) c.put-2.ensures.size c.put-2.ensures.bytes in
+    let all = put_more c.loop-n.invariant.so_far (10 ∷ []) c.put_fitting-2.ensures in
     (rw (line-end c.args.word.now c.args.numbers.now c.loop-n.n-index (omega arith)) at all).size_is
 
 pub returns-clause-bytes : goal.returns-clause-bytes
 returns-clause-bytes c =
-    let all = put_more c.loop-n.invariant.so_far (10 ∷ []) c.put-2.ensures.size c.put-2.ensures.bytes in
+    let all = put_more c.loop-n.invariant.so_far (10 ∷ []) c.put_fitting-2.ensures in
     let put = (rw (line-end c.args.word.now c.args.numbers.now c.loop-n.n-index (omega arith)) at all).bytes_are in
     search (rules, put)

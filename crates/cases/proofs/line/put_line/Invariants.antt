@@ -7,6 +7,6 @@ use Rattle.cases.proofs.line.put_line.Given as goal
 abbrev pub invariant-loop-n : goal.invariant-loop-n
 invariant-loop-n l =
     record {
-      same_buffer : l.line.bytes.ghost_name ≡ l.initial.line.bytes.ghost_name;
-      so_far : Holds l.fn.bytes (l.word ++ figures (take l.n-index l.numbers)) l.line.bytes.now l.line.size;
+      same_buffer : l.line.buffer.ghost_name ≡ l.initial.line.buffer.ghost_name;
+      so_far : Holds l.fn.bytes (l.word ++ figures (take l.n-index l.numbers)) l.line;
     }
