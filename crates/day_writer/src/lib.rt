@@ -54,7 +54,7 @@ fn check(numbers: Numbers, size: usize, room: usize) -> Result<(), Refusal>
 }
 
 // The file of a setup's four numbers and its events, at the start of the buffer. Refused with 1 to 5, 14, 16 when the file would pass
-// 32,768 bytes, 17 when the buffer is shorter than the file: nothing is written.
+// 32,768 bytes, 17 when the buffer is shorter than the file: nothing is written. Past its check a size is small, and `as` keeps it.
 #[tactic(auto, using(crate::proofs::Writing::accepted))]
 pub fn write_file(numbers: Numbers, events: &[u8], out: &mut [u8]) -> Result<usize, Refusal>
     ensures value { as_written result ≡ write_file (plain_of numbers) events.now out.old }
