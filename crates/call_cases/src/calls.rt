@@ -1,7 +1,7 @@
 // One record of the input: a state's image, the call's number, and what the call is given besides. 0 is an event, with its
 // kind and its process; 1 a list, with the events' length, the journal's length and the events; 2 the gate report; 3 the setup
 // of the state's four numbers with a count, in eight bytes, low byte first; 4 the setup of these with a list of closed names, its
-// length in two bytes, low byte first, and the list.
+// length in two bytes, low byte first, and the list. Input and output stay two arguments: each is lent on by itself.
 use cases::{image, input, line};
 use fresh::state;
 use machine::{GateReport, Numbers, Refusal, State, refusal};

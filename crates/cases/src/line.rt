@@ -34,7 +34,8 @@ pub fn print_line<W: Write>(output: &mut W, word: &[u8], numbers: &[u64]) -> io:
     output.write_all(&line[..size])
 }
 
-// Of numbers and the bytes behind them, the one at a place; 0 past their end.
+// Of numbers and the bytes behind them, the one at a place; 0 past their end. By places, since what `print_line` promises is of a slice:
+// there is no heap to gather a chain in.
 fn number_at(numbers: &[u64], bytes: &[u8], place: usize) -> u64
     ensures { result ≡ get_or (numbers.now ++ bytes.now) place 0 }
 {

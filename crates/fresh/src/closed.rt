@@ -1,4 +1,5 @@
-// Which names are closed (document 02, e: closed pads): the bits of one number of 64, read with no loop over names. Where `as` narrows, the
+// Which names are closed (document 02, e: closed pads): the bits of one number of 64, read with no loop over names.
+// That a number is at most 64, or below, stays a clause: it is of one argument, as a shift asks for it. Where `as` narrows, the
 // check proves that no number is cut: TryFrom would add a case that cannot be.
 ghost use Rattle.std.specs.Prelude.{◌≡◌, ◌*◌, ◌-◌, ◌/◌, ◌%◌, ◌^◌, ◌≤◌, ◌<◌, ltb};
 ghost use Rattle.std.specs.Int.Count.{ones};

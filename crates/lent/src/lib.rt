@@ -4,7 +4,8 @@
 ghost use Rattle.std.specs.Prelude.{◌≡◌, ◌+◌, ◌-◌, ◌≤◌, length, take};
 ghost use Rattle.lent.specs.Text.{Appends};
 
-// What is put into a buffer, from its start.
+// What is put into a buffer, from its start. No Vec: the memory is lent, and there is no heap. That there is room is of each text that is
+// put, and so a clause.
 #[derive(Drop)]
 pub struct Text<'a> {
     pub buffer: &'a mut [u8],

@@ -18,8 +18,8 @@ pub use refusal::Refusal;
 pub const NO_NAME: u8 = 255;
 
 // What a setup is given: processes (document 01: handsets) N, leaves L, segments (rows) in a leaf g, bits in a segment b, and which
-// names are closed (document 02, e: closed pads): bit p of `closed` is 1 where name p is. C's record has the four one by one, and so no
-// `Numbers` in it.
+// names are closed (document 02, e: closed pads): bit p of `closed` is 1 where name p is. Not a
+// `Numbers` and a word: every definition and theorem names the four by one word each, and would by two.
 #[repr(C)]
 #[derive(Clone, Copy, Default)]
 pub struct Setup {
@@ -43,8 +43,8 @@ pub struct Process {
     pub returns: u8,
 }
 
-// The setup, the gate word with its queue, a counter for each node (place 0 is unused), a word for each segment (document 01: row),
-// and the processes.
+// C's record, in fixed memory: the setup, the gate word with its queue and how many stand in it, a counter for each node (place 0 is
+// unused), a word for each segment (document 01: row), and the processes.
 #[repr(C)]
 #[derive(Clone, Copy)]
 pub struct State {

@@ -1,4 +1,4 @@
-// Stage 3: one getname step at a node or at a leaf.
+// Stage 3: one getname step at a node or at a leaf. Why what is told of the process stays a clause is said in `lib.rt`.
 ghost use Rattle.std.specs.Prelude.{◌≡◌, ◌+◌, ◌*◌, ◌≤◌, ◌<◌, IfSome};
 ghost use Rattle.std.specs.Option.{unwrap_or};
 ghost use Rattle.machine.specs.Getname.{claimed, side, outcome, descend, probe};

@@ -1,7 +1,8 @@
 // One event, done in place: its refusals in order, then what its kind and the process's stage say. For the crates above; a user calls
 // those. What is told of a process, and that the state is in range, stays in clauses. A struct of the lent state, the place and that fact
-// is refused by the borrow checker where it is taken by value and written through; by `&mut` each method owes, for a clause that goes, one
-// that it still lends that state, and the fact of its new record. A copy of the process's numbers needs one that ties it to the state.
+// is refused by the borrow checker where it is taken by value and written through; by `&mut` `probe` was not proved, and each method owes,
+// for a clause that goes, one that it still lends that state, and the fact of its new record. A copy of the process's numbers needs one
+// that ties it to the state.
 #![tactic(auto)]
 
 mod getname;

@@ -1,4 +1,5 @@
-// Stage 5: one putname step above the gate gives back a bit or a counter, which counts as a return operation.
+// Stage 5: one putname step above the gate gives back a bit or a counter, which counts as a return operation. Why what is told of the
+// process stays a clause is said in `lib.rt`.
 ghost use Rattle.std.specs.Prelude.{◌≡◌, ◌≢◌, ◌<◌};
 ghost use Rattle.machine.specs.Putname.{returned, give_back, climb};
 ghost use Rattle.machine.specs.Refusal.{answered};

@@ -23,7 +23,8 @@ impl Counters<'_> {
         v == 0 || self.counters[usize::from(v)] <= self.accepted.fresh_counter(v)
     }
 
-    // The counters of the nodes below L, one by one. The bound 16 is for the compiler, which then knows each node's depth.
+    // The counters of the nodes below L, one by one. The bound 16 is for the compiler, which then knows each node's depth
+    // (docs/PERFORMANCE.md, Closed names).
     fn each_in_range(&self) -> bool
         ensures { result ≡ all_below self.now.accepted.leaves (node_test self.now.accepted self.now.counters.now) }
     {
@@ -61,8 +62,8 @@ impl Counters<'_> {
     }
 }
 
-// The counters of the nodes below L. Two functions for speed alone: with none closed a fresh value is one shift, and otherwise the names
-// are counted level by level.
+// The counters of the nodes below L. Two functions for speed alone (docs/PERFORMANCE.md, Closed names): with none closed a fresh value is
+// one shift, and otherwise the names are counted level by level.
 pub(crate) fn counters_in_range(counters: &[u8; 16], accepted: Accepted) -> bool
     ensures { result ≡ all_below accepted.leaves (node_test accepted counters.now) }
 {

@@ -19,7 +19,7 @@ fn gate_in_range(k: u8, a: i8) -> bool
 }
 
 // The greatest of numbers; 0 of none. A fold from 0: `max` takes the first number apart, so that three of 32 are compared one by one, and
-// an event of light took some 25 instructions more.
+// an event of light took some 25 instructions more, where an event call is near its bar (docs/PERFORMANCE.md).
 fn greatest(xs: &[u8]) -> u8
     ensures { Greatest xs.now (length xs.now) result }
 {
@@ -27,7 +27,7 @@ fn greatest(xs: &[u8]) -> u8
 }
 
 // Are all the numbers from place m on 0? The fold stops nowhere, and `|` reads each number, whatever m is, so that the compiler takes many
-// at once.
+// at once: with `||` an event took some 550 instructions more.
 fn is_zero_from(xs: &[u8; 64], m: u8) -> bool
     ensures { result ≡ all_below 64 (past_test m xs.now) }
 {
@@ -53,7 +53,7 @@ fn words_in_range(words: &[u8; 64], accepted: Accepted) -> bool
     u16::from(greatest(used)) < 1u16 << setup.bits
 }
 
-// Has segment word r no closed bit set?
+// Has segment word r no closed bit set? Words and setup stay two arguments: a struct of both, for three functions, would be longer.
 fn word_open(words: &[u8; 64], accepted: Accepted, r: u8) -> bool
     requires { (r < 64) × (r < accepted.leaves * accepted.segments) }
     ensures { result ≡ closed_test accepted words.now r }

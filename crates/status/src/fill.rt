@@ -18,10 +18,10 @@ pub fn fill_status(state: &State, records: &mut [Status]) -> Result<(), Refusal>
     if records.len() < n {
         return Err(Refusal::Short);
     }
-    // By index: of a slice that `iter_mut` lent no proof knows what it holds afterwards, and of a record's array of records not its length.
-    for i in 0..n {
+    let lent = &mut records[..n];
+    for (i, record) in lent.iter_mut().enumerate() {
         let h = state.process[i];
-        records[i] = Status {
+        *record = Status {
             stage: h.stage,
             name: h.name,
             figure: h.figure(),

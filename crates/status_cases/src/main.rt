@@ -3,7 +3,6 @@
 // lent, which were 170 before the call. The lines to compare with, in the file `stdout`, come from a simulator of other authorship.
 #![tactic(auto)]
 
-mod lend;
 mod records;
 
 fn main(rt: HostRuntime) {

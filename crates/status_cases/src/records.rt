@@ -1,10 +1,8 @@
 // One record of the input, and its line.
-ghost use Rattle.std.specs.Prelude.{◌≤◌};
-
-use crate::lend;
 use cases::{image, input, line};
-use machine::{Refusal, State, Status, refusal};
+use machine::{State, Status, refusal};
 use renaming::list;
+use status::fill;
 use std::io::{self, ErrorKind, Read, Write};
 
 // Runs the list that follows in the input.
@@ -18,24 +16,6 @@ fn run_next<R: Read>(input: &mut R, state: &mut State) -> io::Result<()> {
     Ok(())
 }
 
-// Prints what a call answered, and the three numbers of each record that it was lent, the first of 80.
-fn print_records<W: Write>(
-    output: &mut W,
-    filled: &Result<(), Refusal>,
-    records: &[Status; 80],
-    count: usize,
-) -> io::Result<()>
-    requires { count ≤ 80 }
-{
-    let bytes = records.map(|h| [h.stage, h.name, h.figure]);
-    line::print_bytes(
-        output,
-        b"roll",
-        &[refusal::answered(filled).into()],
-        bytes[..count].as_flattened(),
-    )
-}
-
 // Reads a record, runs its list, fills the status records and prints its line. An error where the input ends, within a record too, and
 // where more is to be lent than there is.
 pub(crate) fn next<R: Read, W: Write>(input: &mut R, output: &mut W) -> io::Result<()> {
@@ -43,14 +23,15 @@ pub(crate) fn next<R: Read, W: Write>(input: &mut R, output: &mut W) -> io::Resu
     run_next(input, &mut state)?;
     let [count]: [u8; 1] = input::read(input)?;
     let count = usize::from(count);
-    if count > 80 {
-        return Err(ErrorKind::InvalidData.into());
-    }
     let mut records = [Status {
         stage: 170,
         name: 170,
         figure: 170,
     }; 80];
-    let filled = lend::fill_first(&state, &mut records, count);
-    print_records(output, &filled, &records, count)
+    let lent = records.get_mut(..count).ok_or(ErrorKind::InvalidData)?;
+    let filled = fill::fill_status(&state, lent);
+    let bytes = records.map(|h| [h.stage, h.name, h.figure]);
+    let shown = bytes.get(..count).ok_or(ErrorKind::InvalidData)?;
+    let answer = refusal::answered(&filled);
+    line::print_bytes(output, b"roll", &[answer.into()], shown.as_flattened())
 }
