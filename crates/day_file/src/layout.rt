@@ -44,7 +44,8 @@ fn is_entry(file: &[u8], at: usize, kind: u8, offset: usize, size: usize) -> boo
     file[at] == kind && word(file, at + 1) as usize == offset && word(file, at + 5) as usize == size
 }
 
-// The setup's four numbers in body 1 of a file that has the layout; 10 for its length or its first five bytes, 11 for an entry.
+// The setup's four numbers in body 1 of a file that has the layout; 10 for its length or its first five bytes, 11 for an
+// entry or an odd list.
 #[tactic(auto, unfolding(crate::specs::Layout::layout_answer))]
 pub(crate) fn numbers_in(file: &[u8]) -> Result<Numbers, Refusal>
     ensures answer { answered result ≡ layout_answer file.now }

@@ -12,7 +12,7 @@ use std::io::{self, ErrorKind, Read, Write};
 // The byte that lent buffers are filled with.
 const LENT: u8 = 170;
 
-// What a call's list did: the claim figure of the dearest holder after it, and whether something is amiss.
+// What a call's list did: the claim figure of the dearest holder after it, and whether something is amiss. Both are printed.
 struct Outcome {
     holder: u8,
     is_amiss: bool,

@@ -90,7 +90,8 @@ impl Accepted {
         closed::part(setup.closed, r * setup.bits, setup.bits) as u8
     }
 
-    // The fresh value of node v's counter: the open names under its left child, of which there are k / 2^(d+1) names.
+    // The fresh value of node v's counter: the open names under its left child, of which there are k / 2^d names, d one
+    // more than the node's depth.
     pub fn fresh_counter(self, v: u8) -> u8
         requires { (0 < v) × (v < self.leaves) }
         ensures { result ≡ fresh_counter self v }
@@ -129,7 +130,7 @@ impl Accepted {
         }
     }
 
-    // The fresh state with so many of its counters.
+    // The fresh state with so many of its counters: segment words, then counters.
     pub fn state(self, count: u64) -> State
         ensures { result ≡ partial self count }
     {
@@ -138,8 +139,8 @@ impl Accepted {
             gate: self.open_names() as i8,
             queued: 0,
             queue: [0; 64],
-            counters: array::from_fn(|v| self.counter(v as u8, count)),
             words: [0; 64],
+            counters: array::from_fn(|v| self.counter(v as u8, count)),
             process: array::from_fn(|p| self.process(p)),
         }
     }

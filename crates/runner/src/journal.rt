@@ -6,7 +6,7 @@ ghost use Rattle.machine.specs.State.{process_at, figure};
 
 use machine::{Refusal, State, refusal};
 
-// What an entry has in the place of a process that it does not show.
+// What an entry has in the place of a process that it does not show: a byte of the journal, and so no Option.
 const UNSHOWN: u8 = 255;
 
 // An entry: the answer, then stage, name and figure of the process after the event, or 255s where none is shown.

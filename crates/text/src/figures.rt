@@ -6,7 +6,7 @@ ghost use Rattle.text.specs.Lines.{figure};
 use lent::Text;
 
 // Puts a figure and its end, digit by digit: tried with `itoa`, 4,432,591 in place of 2,694,948 instructions for a file's text, 2.28 times
-// as long as the simulator in place of 0.93.
+// as long as the simulator in place of 0.93, where this stays under it.
 #[tactic(auto, unfolding(crate::specs::Lines::figure, crate::specs::Lines::decimal))]
 pub(crate) fn put_figure(text: &mut Text, x: u8, end: u8)
     requires { text.old.size + length (figure x end) ≤ length text.old.buffer.now }
