@@ -28,7 +28,8 @@ use Rattle.machine.proofs.Facts.Checks.{Passed, read_of, all_passed, accepted_wi
 use Rattle.machine.proofs.Facts.Refusals.{accepted_of, refused_of}
 use Rattle.machine.proofs.Facts.Tests.{and_left, and_right}
 use Rattle.machine.proofs.Laws.Setup.{setup-answers, setup-accepted}
-use Rattle.day_file.specs.Layout.{is_entry, events_entry, body_size, body_setup, layout_checks, layout_answer, file_answer, read_setup, read_events, events_start}
+use Rattle.day_file.specs.Layout.{is_entry, events_entry, body_size, body_setup, layout_checks, layout_answer}
+use Rattle.day_file.specs.Layout.{file_answer, read_setup, read_events, events_start}
 
 -- the state comes with the file's own answer
 pub read_answers : (f : List ℕ) → (read_setup f).answer ≡ file_answer f

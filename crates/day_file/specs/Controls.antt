@@ -47,7 +47,9 @@ pub record Read : Type 0 where
       × (file_answer (contents 0 64 16 9 2) ≡ 3)
       × (file_answer (contents 0 64 16 2 9) ≡ 4)
       × (file_answer (contents 0 64 16 2 3) ≡ 5)
-  pub refused_setup : (read_setup (contents 2 64 16 2 3 ++ request 0) ≡ done 5 blank) × (read_events (contents 2 64 16 2 3 ++ request 0) ≡ [])
+  pub refused_setup :
+      (read_setup (contents 2 64 16 2 3 ++ request 0) ≡ done 5 blank)
+      × (read_events (contents 2 64 16 2 3 ++ request 0) ≡ [])
 
 pub record Wrote : Type 0 where
   -- P11's file, in a buffer of 51 bytes

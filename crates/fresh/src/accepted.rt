@@ -65,7 +65,8 @@ impl Accepted {
     pub fn names(self) -> u8
         ensures { result ≡ names self }
     {
-        self.setup.leaves * self.setup.segments * self.setup.bits
+        let setup = self.setup;
+        setup.leaves * setup.segments * setup.bits
     }
 
     // The open ones of them.

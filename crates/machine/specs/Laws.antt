@@ -1,5 +1,6 @@
 -- What holds of the machine: of every setup, state, event and list. One law for each field, and `laws` in proofs/Laws.antt proves them.
-use Rattle.std.specs.Prelude.{◌≡◌, ◌≢◌, true, false, not, List, [], ◌++◌, ℕ, suc, ◌+◌, ◌-◌, ◌*◌, ◌/◌, ◌%◌, ◌^◌, ◌≤◌, ◌<◌, ltb, length, get_or}
+use Rattle.std.specs.Prelude.{◌≡◌, ◌≢◌, true, false, not, List, [], ◌++◌, length, get_or}
+use Rattle.std.specs.Prelude.{ℕ, suc, ◌+◌, ◌-◌, ◌*◌, ◌/◌, ◌%◌, ◌^◌, ◌≤◌, ◌<◌, ltb}
 use Rattle.machine.specs.Closed.{closed_by, lists, lists_below, is_open, rank, closed_word}
 use Rattle.machine.specs.Event.{event}
 use Rattle.machine.specs.Gate.{head_gone, enter, await}
@@ -93,8 +94,10 @@ pub record Laws : Type 0 where
   -- a turn would leave a range where the gate word, the queue, the figure or a counter has no room, and nowhere else
   pub enter_15 : (s : State) (p : ℕ) → in_range s ≡ true → p < s.setup.processes → in_range (enter s p) ≡ enter_room s
   pub await_15 : (s : State) (p : ℕ) → in_range s ≡ true → p < s.setup.processes → in_range (await s p) ≡ true
-  pub getname_15 : (s : State) (p : ℕ) → Sized s → in_range s ≡ true → p < s.setup.processes → in_range (getname_step s p) ≡ getname_room s p
-  pub putname_15 : (s : State) (p : ℕ) → Sized s → in_range s ≡ true → p < s.setup.processes → in_range (putname_step s p) ≡ putname_room s p
+  pub getname_15 : (s : State) (p : ℕ) → Sized s → in_range s ≡ true → p < s.setup.processes
+      → in_range (getname_step s p) ≡ getname_room s p
+  pub putname_15 : (s : State) (p : ℕ) → Sized s → in_range s ≡ true → p < s.setup.processes
+      → in_range (putname_step s p) ≡ putname_room s p
   -- running a list is running its parts in turn, and an even list of bytes is the events of its parts
   pub parts : (s : State) (es fs : List Event) → after s (es ++ fs) ≡ after (after s es) fs
   pub parts_answers : (s : State) (es fs : List Event) → answers s (es ++ fs) ≡ answers s es ++ answers (after s es) fs

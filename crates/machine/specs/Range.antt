@@ -1,6 +1,7 @@
 -- Document 01, section State, and document 02, e): the range of each number. Only places that N, L and g use are looked at, and the
 -- whole queue.
-use Rattle.std.specs.Prelude.{◌≡◌, Bool, true, cond, ◌&&◌, ◌||◌, List, [], ◌∷◌, ℕ, ◌+◌, ◌*◌, ◌^◌, ◌≤◌, ◌<◌, leb, ltb, eqb, ℤ, pos, negsuc, get_or}
+use Rattle.std.specs.Prelude.{◌≡◌, Bool, true, cond, ◌&&◌, ◌||◌, List, [], ◌∷◌, get_or}
+use Rattle.std.specs.Prelude.{ℕ, ◌+◌, ◌*◌, ◌^◌, ◌≤◌, ◌<◌, leb, ltb, eqb, ℤ, pos, negsuc}
 use Rattle.machine.specs.Below.{all_below}
 use Rattle.machine.specs.Answer.{accepted}
 use Rattle.machine.specs.Check.{all_of}

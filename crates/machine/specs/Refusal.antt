@@ -2,9 +2,9 @@
 use Rattle.std.specs.Prelude.{ℕ, Result, Ok, Err}
 use Rattle.machine.specs.Answer as answer
 use Rattle.machine.specs.declared.refusal.Refusal.{Refusal}
-use Rattle.machine.specs.declared.refusal.Refusal.TheVariants.{Processes, Leaves, Segments, Bits, Names, Stranger, Busy, NotMoving, NoNameHeld}
-use Rattle.machine.specs.declared.refusal.Refusal.TheVariants.{NoDayFile, Contents, Kind, Short, Odd, BrokenState, TooLong, NoRoom, SmallBuffer}
-use Rattle.machine.specs.declared.refusal.Refusal.TheVariants.{ClosedName, NoneOpen}
+use Rattle.machine.specs.declared.refusal.Refusal.TheVariants.{Processes, Leaves, Segments, Bits, Names, Stranger, Busy}
+use Rattle.machine.specs.declared.refusal.Refusal.TheVariants.{NotMoving, NoNameHeld, NoDayFile, Contents, Kind, Short, Odd, BrokenState}
+use Rattle.machine.specs.declared.refusal.Refusal.TheVariants.{TooLong, NoRoom, SmallBuffer, ClosedName, NoneOpen}
 
 abbrev pub number : Refusal → ℕ
 number Processes = answer.processes

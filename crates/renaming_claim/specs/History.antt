@@ -1,6 +1,7 @@
 -- What a list of events gives one process: its steps (document 01: turns), and, since its last accepted request (ask), its getname steps
 -- (claim turns) and its return operations (document 02, b). The machine's own states and answers decide.
-use Rattle.std.specs.Prelude.{◌≡◌, Bool, true, false, cond, ◌&&◌, ◌||◌, List, [], ◌∷◌, ℕ, suc, ◌+◌, ◌%◌, ◌<◌, eqb, ltb, length, get_or, take}
+use Rattle.std.specs.Prelude.{◌≡◌, Bool, true, false, cond, ◌&&◌, ◌||◌, List, [], ◌∷◌, length, get_or, take}
+use Rattle.std.specs.Prelude.{ℕ, suc, ◌+◌, ◌%◌, ◌<◌, eqb, ltb}
 use Rattle.machine.specs.Answer.{accepted}
 use Rattle.machine.specs.Below.{indicator}
 use Rattle.machine.specs.Kind.{request, step}

@@ -41,7 +41,9 @@ module _ (c : Setup) (f f' : List Event → State) (es : List Event) (e : f es �
         held_below = λ p k.
             across (λ s. (process_at s p).stage ≡ working → (process_at s p).name < names c) (a.held_below p k);
         held_unlike = λ p q k j d.
-            across (λ s. (process_at s p).stage ≡ working → (process_at s q).stage ≡ working → (process_at s p).name ≢ (process_at s q).name)
+            across
+            (λ s.
+            (process_at s p).stage ≡ working → (process_at s q).stage ≡ working → (process_at s p).name ≢ (process_at s q).name)
             (a.held_unlike p q k j d);
         none_exhausted = λ p k. across (λ s. (process_at s p).stage ≢ exhausted) (a.none_exhausted p k);
         held_low = λ m few p k.

@@ -110,7 +110,10 @@ module _ (s : State) (p : ℕ) where
         (Err NotMoving, refl),
         (
           guards enter,
-          (guards await, (guards getname_step, ((Err NotMoving, refl), (guards putname_step, (guards stay, λ _. (Err BrokenState, refl)))))),
+          (
+            guards await,
+            (guards getname_step, ((Err NotMoving, refl), (guards putname_step, (guards stay, λ _. (Err BrokenState, refl))))),
+          ),
         ),
       )
       (process_at s p).stage

@@ -11,5 +11,6 @@ use Rattle.dearest.proofs.height_of.Goals as goal
 pub returns : goal.returns
 unfolding all_below is_leaves log2 count_trailing_zeros
 returns c =
-    let zeros = by_leaves (λ l. eqb (count_trailing_zeros 8 l) (height l)) refl c.setup.result.leaves (limits_of _ c.setup.ensures.accepted).leaves in
+    let leaves = (limits_of _ c.setup.ensures.accepted).leaves in
+    let zeros = by_leaves (λ l. eqb (count_trailing_zeros 8 l) (height l)) refl c.setup.result.leaves leaves in
     eqb-true _ _ zeros ∙ ap (λ (s : _). height s.leaves) c.setup.ensures.value

@@ -7,8 +7,8 @@ use Rattle.machine.proofs.Rules.{◌≡◌, ◌≢◌, ◌∙◌, sym, ap, refl,
 use Rattle.machine.specs.Refusal.{number, answered}
 use Rattle.machine.specs.declared.refusal.Refusal.{Refusal}
 use Rattle.machine.specs.declared.refusal.Refusal.TheVariants.{Processes, Leaves, Segments, Bits, Names, Stranger, Busy, NotMoving}
-use Rattle.machine.specs.declared.refusal.Refusal.TheVariants.{NoNameHeld, NoDayFile, Contents, Kind, Short, Odd, BrokenState, TooLong, NoRoom}
-use Rattle.machine.specs.declared.refusal.Refusal.TheVariants.{SmallBuffer, ClosedName, NoneOpen}
+use Rattle.machine.specs.declared.refusal.Refusal.TheVariants.{NoNameHeld, NoDayFile, Contents, Kind, Short, Odd}
+use Rattle.machine.specs.declared.refusal.Refusal.TheVariants.{BrokenState, TooLong, NoRoom, SmallBuffer, ClosedName, NoneOpen}
 
 above : (r : Refusal) → ltb 0 (number r) ≡ true
 above Processes = refl

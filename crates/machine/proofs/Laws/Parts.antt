@@ -5,7 +5,8 @@ use Prim.Native.Nat.{ℕ, ◌*◌, ◌/◌, ◌%◌}
 use lib.Dec.{eqb, leb}
 use lib.ListN.{length, drop, length-append, length-drop}
 use Rattle.machine.proofs.Rules.{◌≡◌, ◌∙◌, sym, ap, refl, ◌||◌, arith, leb-true}
-use Rattle.machine.specs.Lists.{Event, event_of, events_of, list_bytes, event_done, after, answers, entry_of, journal, journal_length, run_journal}
+use Rattle.machine.specs.Lists.{Event, event_of, events_of, list_bytes, event_done, after, answers}
+use Rattle.machine.specs.Lists.{entry_of, journal, journal_length, run_journal}
 use Rattle.machine.specs.Range.{in_range}
 use Rattle.machine.specs.declared.State.{State}
 use Rattle.machine.proofs.Facts.Tests.{by_cond}

@@ -133,7 +133,9 @@ pub record Reached : Type 0 where
       ∷ []
   pub drawn_gate : ((after_list (plain 5 2 2 1) drawn).gate ≡ negsuc 0) × (admitted (after_list (plain 5 2 2 1) drawn) ≡ 4)
   pub drawn_nodes : map (λ p. (process_at (after_list (plain 5 2 2 1) drawn) p).node) (0 ∷ 1 ∷ 2 ∷ 3 ∷ 4 ∷ []) ≡ 2 ∷ 2 ∷ 3 ∷ 1 ∷ 1 ∷ []
-  pub drawn_segments : map (λ p. (process_at (after_list (plain 5 2 2 1) drawn) p).segment) (0 ∷ 1 ∷ 2 ∷ 3 ∷ 4 ∷ []) ≡ 0 ∷ 1 ∷ 0 ∷ 0 ∷ 0 ∷ []
+  pub drawn_segments :
+      map (λ p. (process_at (after_list (plain 5 2 2 1) drawn) p).segment) (0 ∷ 1 ∷ 2 ∷ 3 ∷ 4 ∷ [])
+      ≡ 0 ∷ 1 ∷ 0 ∷ 0 ∷ 0 ∷ []
   pub drawn_queue : ((after_list (plain 5 2 2 1) drawn).queued ≡ 1) × (take 1 (after_list (plain 5 2 2 1) drawn).queue ≡ 4 ∷ [])
   pub drawn_places : (counter_at (after_list (plain 5 2 2 1) drawn) 1 ≡ 0)
       × (take 4 (after_list (plain 5 2 2 1) drawn).words ≡ 1 ∷ 0 ∷ 0 ∷ 0 ∷ [])

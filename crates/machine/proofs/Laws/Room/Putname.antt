@@ -56,7 +56,9 @@ module _ (s : State) (p : ℕ) (k : Ranges s) (kp : p < s.setup.processes) (z : 
     abbrev raised : State
     raised = with_counter u (counter_at s u + 1) s
 
-    counter_room : in_range (update p (λ x. returned (with_node u x)) raised) ≡ (ltb (counter_at s u) (fresh_counter s.setup u) && has_room h)
+    counter_room :
+        in_range (update p (λ x. returned (with_node u x)) raised)
+        ≡ (ltb (counter_at s u) (fresh_counter s.setup u) && has_room h)
     counter_room =
         let inside : u < length s.counters = omega (arith, below, leaves_high s.setup.leaves k.limits.leaves, z.counters) in
         let t : State = update p (λ x. returned (with_node u x)) raised in

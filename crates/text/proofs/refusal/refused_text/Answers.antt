@@ -22,9 +22,12 @@ pub put_figure-requires : goal.put_figure-requires
 put_figure-requires c = grind (arith, figure-length, same_room c.put.ensures)
 
 pub returns-clause-value : goal.returns-clause-value
-returns-clause-value c = given-put c.new-text.ensures.empty c.new-text.ensures.bytes (rw c.from-n.ensures at (refused-put _ c.put.ensures c.put_figure.ensures))
+returns-clause-value c =
+    let wrote = rw c.from-n.ensures at (refused-put _ c.put.ensures c.put_figure.ensures) in
+    given-put c.new-text.ensures.empty c.new-text.ensures.bytes wrote
 
 pub returns-clause-buffer : goal.returns-clause-buffer
 returns-clause-buffer c =
-    let put = lent_after-put c.new-text.ensures.empty c.new-text.ensures.bytes (rw c.from-n.ensures at (refused-put _ c.put.ensures c.put_figure.ensures)) in
+    let wrote = rw c.from-n.ensures at (refused-put _ c.put.ensures c.put_figure.ensures) in
+    let put = lent_after-put c.new-text.ensures.empty c.new-text.ensures.bytes wrote in
     search (rules, put)

@@ -3,7 +3,8 @@ use Rattle.std.proofs.Common.{◌≡◌, ◌∙◌, ◌≤◌, ◌<◌, ap, arit
 use Rattle.std.proofs.lemmas.Grind.{common_steps}
 use Rattle.machine.specs.declared.Setup.{Setup}
 use Rattle.fresh.proofs.Filled.{place_unused, place_unreached, place_reached}
-use Rattle.fresh.proofs.accepted.Accepted.counter.Goals.{then-not-contains-via-then-not-contains, then-not-contains-via-else-not-contains+then-from-count}
+use Rattle.fresh.proofs.accepted.Accepted.counter.Goals.{then-not-contains-via-then-not-contains}
+use Rattle.fresh.proofs.accepted.Accepted.counter.Goals.{then-not-contains-via-else-not-contains+then-from-count}
 use Rattle.fresh.proofs.accepted.Accepted.counter.Goals as goal
 
 pub returns-then-not-contains : goal.returns-then-not-contains
