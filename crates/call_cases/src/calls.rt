@@ -19,7 +19,11 @@ enum Call {
 }
 
 impl TryFrom<u8> for Call {
+    ghost use Rattle.call_cases.specs.Call.{Decodes};
+
     type Error = io::Error;
+
+    ghost try_from_gives = { Decodes };
 
     fn try_from(n: u8) -> io::Result<Call> {
         match n {
@@ -36,7 +40,7 @@ impl TryFrom<u8> for Call {
 // What a call answered, and the digest of the state that it left.
 fn print_state<W: Write, T>(
     output: &mut W,
-    word: &[u8],
+    word: &str,
     outcome: &Result<T, Refusal>,
     state: &State,
 ) -> io::Result<()> {
@@ -52,7 +56,7 @@ fn event_call<R: Read, W: Write>(
 ) -> io::Result<()> {
     let [kind, process]: [u8; 2] = input::read(input)?;
     let done = event::event(&mut state, kind, process);
-    print_state(output, b"event", &done, &state)
+    print_state(output, "event", &done, &state)
 }
 
 // A list: the answer, the digest of the state that it left, and the journal. Journal bytes that the call leaves untouched show as 170.
@@ -66,7 +70,7 @@ fn list_call<R: Read, W: Write>(input: &mut R, output: &mut W, mut state: State)
     let answer = refusal::answered(&done);
     line::print_bytes(
         output,
-        b"list",
+        "list",
         &[answer.into(), image::digest(&state).into()],
         journal,
     )
@@ -78,13 +82,13 @@ fn report_call<W: Write>(output: &mut W, state: &State) -> io::Result<()> {
     let answer = refusal::answered(&report);
     let GateReport { free, queued } = report.unwrap_or_default();
     let numbers = [answer, free, queued].map(u64::from);
-    line::print_line(output, b"report", &numbers)
+    line::print_line(output, "report", &numbers)
 }
 
 // What a setup gives: the state, or the blank one where it is refused.
 fn print_setup<W: Write>(
     output: &mut W,
-    word: &[u8],
+    word: &str,
     made: &Result<State, Refusal>,
 ) -> io::Result<()> {
     let blank = state::blank_state();
@@ -98,7 +102,7 @@ fn setup_call<R: Read, W: Write>(
     numbers: Numbers,
 ) -> io::Result<()> {
     let count = u64::from_le_bytes(input::read(input)?);
-    print_setup(output, b"setup", &setup::partial_setup(numbers, count))
+    print_setup(output, "setup", &setup::partial_setup(numbers, count))
 }
 
 // A setup with a list of closed names, of at most 600 bytes.
@@ -110,7 +114,7 @@ fn closed_call<R: Read, W: Write>(
     let size = u16::from_le_bytes(input::read(input)?);
     let mut closed = [0; 600];
     let closed = input::read_into(input, &mut closed, size.into())?;
-    print_setup(output, b"closed", &setup::closed_setup(numbers, closed))
+    print_setup(output, "closed", &setup::closed_setup(numbers, closed))
 }
 
 // Reads a record, makes its call and prints its line. An error where the input ends, within a record too, and where the number is no

@@ -25,17 +25,17 @@ pub fn put_line(bytes: &mut [u8], word: &[u8], numbers: &[u64]) -> usize
 }
 
 // Prints a line, or as much of it as 6,000 bytes hold.
-pub fn print_line<W: Write>(output: &mut W, word: &[u8], numbers: &[u64]) -> io::Result<()>
+pub fn print_line<W: Write>(output: &mut W, word: &str, numbers: &[u64]) -> io::Result<()>
     ensures { OnOk result (Appends (W.contents output.old) (W.contents output.new)
         (take 6000 (line_of word.now numbers.now))) }
 {
     let mut line = [0; 6000];
-    let size = put_line(&mut line, word, numbers);
+    let size = put_line(&mut line, word.as_bytes(), numbers);
     output.write_all(&line[..size])
 }
 
-// Of numbers and the bytes behind them, the one at a place; 0 past their end. By places, since what `print_line` promises is of a slice:
-// there is no heap to gather a chain in.
+// Of numbers and the bytes behind them, the one at a place; 0 past their end. By places, since `put_line` takes a slice, and its one
+// loop shows both.
 fn number_at(numbers: &[u64], bytes: &[u8], place: usize) -> u64
     ensures { result ≡ get_or (numbers.now ++ bytes.now) place 0 }
 {
@@ -48,7 +48,7 @@ fn number_at(numbers: &[u64], bytes: &[u8], place: usize) -> u64
 // Prints a line of numbers and the bytes behind them, as print_line does; an error where they are more than 512.
 pub fn print_bytes<W: Write>(
     output: &mut W,
-    word: &[u8],
+    word: &str,
     numbers: &[u64],
     bytes: &[u8],
 ) -> io::Result<()>

@@ -12,12 +12,13 @@ fn next<R: Read, W: Write>(input: &mut R, output: &mut W, n: u64) -> io::Result<
     let size = input::read_size(input)?;
     let mut bytes = [0; 65536];
     let file = input::read_into(input, &mut bytes, size)?;
-    line::print_line(output, b"case", &[n])?;
+    line::print_line(output, "case", &[n])?;
     let mut out = [0; 262144];
     let size = file::file_text(file, &mut out).map_err(|_| ErrorKind::InvalidData)?;
     output.write_all(&out[..size])
 }
 
+// A program has a main of its own.
 fn main(rt: HostRuntime) {
     // stops at the first error, as where the input ends; a proved loop has to end, so the numbers end too, where no run gets to
     let _ = (0..u64::MAX).try_for_each(|n| next(&mut rt.stdin(), &mut rt.stdout(), n));

@@ -26,7 +26,7 @@ pub fn word(file: &[u8], at: usize) -> u32
     u32::from_le_bytes([file[at], file[at + 1], file[at + 2], file[at + 3]])
 }
 
-// Bytes 0 to 4: the letters TURN, and 2.
+// Bytes 0 to 4: the letters TURN, and 2, which document 01 names one by one.
 #[tactic(auto, using(crate::proofs::Marks::marked))]
 fn is_marked(file: &[u8]) -> bool
     requires { head_size ≤ length file.now }
@@ -58,5 +58,6 @@ pub(crate) fn numbers_in(file: &[u8]) -> Result<Numbers, Refusal>
     if !is_entry(file, 5, 1, 23, 4) || !is_entry(file, 14, 2, 27, size) || size % 2 != 0 {
         return Err(Refusal::Contents);
     }
+    // by their places, as document 01 gives them
     Ok(Numbers::from([file[23], file[24], file[25], file[26]]))
 }

@@ -12,7 +12,8 @@ use day_file::layout::{HEAD_SIZE, LONGEST, TURN};
 use fresh::accepted::Accepted;
 use machine::{Numbers, Refusal, Setup};
 
-// An entry of the contents: its kind, where its body begins, and the body's size.
+// An entry of the contents: its kind, where its body begins, and the body's size. The reader compares numbers, as document 01 gives them;
+// that the two agree is the theorem of `round_trip`.
 fn entry(kind: u8, offset: u32, size: u32) -> [u8; 9]
     ensures { result ≡ entry_bytes (entry kind offset size) }
 {
@@ -54,7 +55,8 @@ fn check(numbers: Numbers, size: usize, room: usize) -> Result<(), Refusal>
 }
 
 // The file of a setup's four numbers and its events, at the start of the buffer. Refused with 1 to 5, 14, 16 when the file would pass
-// 32,768 bytes, 17 when the buffer is shorter than the file: nothing is written. Past its check a size is small, and `as` keeps it.
+// 32,768 bytes, 17 when the buffer is shorter than the file: nothing is written. Past its check a size is small, and `as` keeps it. Both
+// parts have places that are known: by `lent::Text` it would be as long.
 #[tactic(auto, using(crate::proofs::Writing::accepted))]
 pub fn write_file(numbers: Numbers, events: &[u8], out: &mut [u8]) -> Result<usize, Refusal>
     ensures value { as_written result ≡ write_file (plain_of numbers) events.now out.old }

@@ -62,9 +62,10 @@ fn next<R: Read, W: Write>(input: &mut R, output: &mut W) -> io::Result<()> {
     let Dearest { figure, size } = made.unwrap_or_default();
     let Outcome { holder, is_amiss } = outcome_of(numbers, size, out);
     let shown = [answer, figure, holder, is_amiss.into()].map(u64::from);
-    line::print_line(output, b"dearest", &shown)
+    line::print_line(output, "dearest", &shown)
 }
 
+// A program has a main of its own.
 fn main(rt: HostRuntime) {
     // stops at the first error, as where the input ends; a proved loop has to end, so the numbers end too, where no run gets to
     let _ = (0..u64::MAX).try_for_each(|_| next(&mut rt.stdin(), &mut rt.stdout()));

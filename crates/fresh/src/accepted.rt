@@ -45,7 +45,7 @@ impl TryFrom<Setup> for Accepted {
 }
 
 impl Accepted {
-    // For a setup that is known to pass the checks.
+    // For a setup that is known to pass the checks, as that of a state in range: TryFrom would check it again.
     pub fn of(setup: Setup) -> Accepted
         requires { setup_answer setup ≡ 0 }
         ensures { result ≡ setup }
@@ -147,7 +147,7 @@ impl Accepted {
     }
 }
 
-// One more than the depth of a node that may carry a counter.
+// One more than the depth of a node that may carry a counter. A byte, since a shift of a byte by a u32 casts it, and owes that it fits.
 fn level(v: u8) -> u8
     requires { (0 < v) × (v < 16) }
     ensures { result ≡ depth v + 1 }

@@ -37,7 +37,7 @@ pub fn closed_in(closed: u64, first: u8, n: u8) -> u8
     requires { (first < 64) × (n ≤ 32) }
     ensures { result ≡ closed_in closed first n }
 {
-    u32::count_ones(part(closed, first, n) as u32) as u8
+    part(closed, first, n).count_ones() as u8
 }
 
 // How many of a setup's k names are open, where none from k on is closed.
@@ -45,5 +45,5 @@ pub(crate) fn open_of(setup: Setup, k: u8) -> u8
     requires { (k ≡ names setup) × (k ≤ 64) × (setup.closed < 2 ^ k) }
     ensures { result ≡ open_names setup }
 {
-    k - u64::count_ones(setup.closed) as u8
+    k - setup.closed.count_ones() as u8
 }

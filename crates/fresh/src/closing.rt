@@ -17,7 +17,7 @@ pub fn are_below(list: &[u8], k: u8) -> bool
     list.iter().all(|&p| p < k)
 }
 
-// The number whose bits are the names of a list of names below k.
+// The number whose bits are the names of a list of names below k. That k is at most 64 is of one argument, and stays a clause.
 pub fn closed_of(list: &[u8], k: u8) -> u64
     requires { (k ≤ 64) × (lists_below k list.now ≡ true) }
     ensures { result ≡ closed_by 0 list.now }

@@ -10,7 +10,7 @@ use machine::{Refusal, Setup};
 
 const MOST_NAMES: u16 = 64;
 
-// L·g·b, which may pass 64.
+// L·g·b, which may pass 64. In 16 bits: of a product in 8 that is None the test of 64 would be two more calls.
 fn product(setup: Setup) -> u16
     requires { (setup.leaves ≤ 16) × ((setup.segments ≤ 8) × (setup.bits ≤ 8)) }
     ensures { result ≡ names setup }

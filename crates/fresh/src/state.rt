@@ -2,7 +2,7 @@
 ghost use Rattle.std.specs.Prelude.{◌≡◌};
 ghost use Rattle.machine.specs.State.{fresh_process, blank};
 
-use machine::{NO_NAME, Process, Setup, State, stage};
+use machine::{NO_NAME, Process, State, stage};
 
 // A process before its first request: at the root, with no name.
 pub fn fresh_process() -> Process
@@ -16,18 +16,10 @@ pub fn fresh_process() -> Process
     }
 }
 
-// The blank state, which a refused setup gives.
+// The blank state, which a refused setup gives: document 01 names it.
 #[tactic(auto, unfolding(machine::specs::State::blank))]
 pub fn blank_state() -> State
     ensures { result ≡ blank }
 {
-    State {
-        setup: Setup::default(),
-        gate: 0,
-        queued: 0,
-        queue: [0; 64],
-        counters: [0; 16],
-        words: [0; 64],
-        process: [Process::default(); 64],
-    }
+    State::default()
 }

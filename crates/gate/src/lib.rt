@@ -87,7 +87,8 @@ fn advance(s: &mut State)
     }
 }
 
-// Stage 5 at node 1: the queue's head, if there is one, leaves, and the gate word rises, to `open_names` at most.
+// Stage 5 at node 1: the queue's head, if there is one, leaves, and the gate word rises, to `open_names` at most. That these are at most 64
+// is of one argument, and stays a clause.
 #[tactic(auto, unfolding(machine::specs::Gate::leave, machine::specs::Gate::head_gone, machine::specs::Room::can_rise))]
 pub fn leave(s: &mut State, p: u8, open_names: u8) -> Result<(), Refusal>
     requires { open_names ≤ 64 }

@@ -46,7 +46,7 @@ pub struct Process {
 // C's record, in fixed memory: the setup, the gate word with its queue and how many stand in it, a counter for each node (place 0 is
 // unused), a word for each segment (document 01: row), and the processes.
 #[repr(C)]
-#[derive(Clone, Copy)]
+#[derive(Clone, Copy, Default)]
 pub struct State {
     pub setup: Setup,
     pub gate: i8,

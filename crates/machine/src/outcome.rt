@@ -22,7 +22,7 @@ pub struct Dearest {
 }
 
 impl Done {
-    // The state that a call gave, or the one that stands for it where the call is refused.
+    // The state that a call gave, or the one that stands for it where the call is refused: given by whoever asks, so that it is not From.
     pub fn given(made: Result<State, Refusal>, otherwise: State) -> Done
         ensures { result ≡ as_done otherwise made }
     {

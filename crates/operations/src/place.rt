@@ -24,7 +24,7 @@ impl Model for Place {
 }
 
 impl Place {
-    // For a number that is known to be below 64.
+    // For a number that is known to be below 64, by a test or by the state's range: TryFrom would test it again.
     pub(crate) fn of(p: u8) -> Place
         requires { p < 64 }
         ensures { result ≡ p }
@@ -32,7 +32,7 @@ impl Place {
         Place { number: p }
     }
 
-    // The number, for the gate.
+    // The number, for the gate: the field, which is private for the invariant's sake.
     pub(crate) fn number(self) -> u8
         ensures { result ≡ self }
     {

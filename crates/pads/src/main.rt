@@ -4,7 +4,7 @@
 use std::env::{Env, FillError};
 use text::file;
 
-// Standard input, for the kit's call, which takes a descriptor: std reads a whole file only onto the heap.
+// Standard input, for the kit's call, which takes a descriptor and fills one buffer up to the input's end.
 const STDIN: i32 = 0;
 
 // Says a line where no output of the program is read.

@@ -23,7 +23,8 @@ impl Counters<'_> {
         v == 0 || self.counters[usize::from(v)] <= self.accepted.fresh_counter(v)
     }
 
-    // The counters of the nodes below L, one by one. The bound 16 is for the compiler, which then knows each node's depth.
+    // The counters of the nodes below L, one by one. The bound 16 is for the compiler, which then knows each node's depth. By place: a
+    // node's number says what its limit is.
     fn each_in_range(&self) -> bool
         ensures { result ≡ all_below self.now.accepted.leaves (node_test self.now.accepted self.now.counters.now) }
     {

@@ -10,7 +10,7 @@ use crate::{counters, processes};
 use fresh::accepted::Accepted;
 use machine::{Refusal, State};
 
-// The gate word, -64 to k, the number of open names.
+// The gate word, -64 to k, the number of open names. That k is at most 64 is of one argument, and stays a clause.
 fn gate_in_range(k: u8, a: i8) -> bool
     requires { k ≤ 64 }
     ensures { result ≡ gate_in_range k a }
@@ -61,7 +61,8 @@ fn word_open(words: &[u8; 64], accepted: Accepted, r: u8) -> bool
     words[usize::from(r)] & accepted.closed_word(r) == 0
 }
 
-// The segment words in use have no closed bit set. A fold stops nowhere: as `all`, 32 words took some 550 instructions in place of 380.
+// The segment words in use have no closed bit set. A fold stops nowhere: as `all`, 32 words took some 550 instructions in place of 380. By
+// place: `closed_word` asks for one below L·g, which is known of the numbers of a range, and not of pairs from `zip`.
 fn words_open(words: &[u8; 64], accepted: Accepted) -> bool
     ensures { result ≡ all_below (accepted.leaves * accepted.segments) (closed_test accepted words.now) }
 {

@@ -10,7 +10,7 @@ ghost use Rattle.machine.specs.Range.{in_range};
 use machine::State;
 
 // The events of a list, on a state in range, which stays a clause as in `operations`. A byte left over is no event. An entry is stored by
-// index, since of what a write through `as_chunks_mut` leaves its contract says nothing.
+// index, since of what a write through `as_chunks_mut` leaves its contract says nothing; `lent::Text` would count what the loop counts.
 #[tactic(auto, using(crate::proofs::Going::finish))]
 pub fn run(s: &mut State, events: &[u8], journal: &mut [u8])
     requires range { in_range s.old ≡ true }

@@ -18,7 +18,7 @@ pub fn fill_status(state: &State, records: &mut [Status]) -> Result<(), Refusal>
     if records.len() < n {
         return Err(Refusal::Short);
     }
-    // The process by index: after an adapter of `iter_mut`, as `zip`, no proof knows what a slice holds.
+    // The process by index: after `zip` on `iter_mut` no proof knows what a slice holds.
     let lent = &mut records[..n];
     for (i, record) in lent.iter_mut().enumerate() {
         let h = state.process[i];

@@ -5,6 +5,7 @@
 
 mod records;
 
+// A program has a main of its own.
 fn main(rt: HostRuntime) {
     // stops at the first error, as where the input ends; a proved loop has to end, so the numbers end too, where no run gets to
     let _ = (0..u64::MAX).try_for_each(|_| records::next(&mut rt.stdin(), &mut rt.stdout()));

@@ -33,5 +33,5 @@ pub(crate) fn next<R: Read, W: Write>(input: &mut R, output: &mut W) -> io::Resu
     let bytes = records.map(|h| [h.stage, h.name, h.figure]);
     let shown = bytes.get(..count).ok_or(ErrorKind::InvalidData)?;
     let answer = refusal::answered(&filled);
-    line::print_bytes(output, b"roll", &[answer.into()], shown.as_flattened())
+    line::print_bytes(output, "roll", &[answer.into()], shown.as_flattened())
 }

@@ -24,9 +24,10 @@ fn next<R: Read, W: Write>(input: &mut R, output: &mut W) -> io::Result<()> {
     // Rust has no From between usize and u64
     let size = written.unwrap_or_default() as u64;
     let figure = image::digest_bytes(out);
-    line::print_line(output, b"write", &[answer.into(), size, figure.into()])
+    line::print_line(output, "write", &[answer.into(), size, figure.into()])
 }
 
+// A program has a main of its own.
 fn main(rt: HostRuntime) {
     // stops at the first error, as where the input ends; a proved loop has to end, so the numbers end too, where no run gets to
     let _ = (0..u64::MAX).try_for_each(|_| next(&mut rt.stdin(), &mut rt.stdout()));

@@ -39,7 +39,7 @@ pub extern "C" fn zevgorim_read_events(file: &[u8]) -> Part
     ensures bytes { bytes_of result file.now ≡ read_events file.now }
 {
     if reader::file_answer(file).is_err() {
-        return Part { offset: 0, size: 0 };
+        return Part::default();
     }
     Part {
         offset: HEAD_SIZE,

@@ -10,7 +10,7 @@ pub mod states;
 
 // A part of a lent file: where it begins, and how many bytes it has.
 #[repr(C)]
-#[derive(Drop)]
+#[derive(Default, Drop)]
 pub struct Part {
     pub offset: usize,
     pub size: usize,

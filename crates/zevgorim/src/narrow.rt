@@ -4,7 +4,8 @@ ghost use Rattle.zevgorim.specs.Narrow.{narrow, numbers_of};
 
 use machine::Numbers;
 
-// 255 stands for every larger number: as a number of a setup, as a kind and as a process it is refused as they are.
+// 255 stands for every larger number: as a number of a setup, as a kind and as a process it is refused as they are. By a
+// name, which its definition has too.
 #[tactic(auto, unfolding(crate::specs::Narrow::narrow))]
 pub(crate) fn narrowed(x: u32) -> u8
     ensures { result ≡ narrow x }

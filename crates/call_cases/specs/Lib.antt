@@ -1,0 +1,2 @@
+-- The calls that the program makes.
+pub mod Call
