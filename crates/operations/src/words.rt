@@ -4,14 +4,15 @@ ghost use Rattle.std.specs.Prelude.{◌≡◌, ◌<◌, ◌≤◌, IfSome};
 ghost use Rattle.std.specs.Option.{unwrap_or};
 ghost use Rattle.machine.specs.Operations.{first_zero, set_first_zero, clr_bit, bounded_decrement};
 
-// The index of the lowest of so many bits that is neither set nor closed: as many below it are one or the other.
+// The index of the lowest of so many bits that is neither set nor closed: the trailing zeros of the complement, as document 01 wants it, and
+// not the trailing ones.
 #[tactic(auto, using(crate::proofs::Bytes::first_zero_is))]
 fn first_zero(word: u8, bits: u8, closed: u8) -> Option<u8>
     requires { bits ≤ 8 }
     ensures answer { unwrap_or result bits ≡ first_zero bits closed word }
     ensures below { IfSome result (λ i. i < bits) }
 {
-    let i = (word | closed).trailing_ones() as u8;
+    let i = (!(word | closed)).trailing_zeros() as u8;
     (i < bits).then_some(i)
 }
 
