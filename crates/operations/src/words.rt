@@ -4,8 +4,8 @@ ghost use Rattle.std.specs.Prelude.{◌≡◌, ◌<◌, ◌≤◌, IfSome};
 ghost use Rattle.std.specs.Option.{unwrap_or};
 ghost use Rattle.machine.specs.Operations.{first_zero, set_first_zero, clr_bit, bounded_decrement};
 
-// The index of the lowest of so many bits that is neither set nor closed: the trailing zeros of the complement, as document 01 wants it, and
-// not the trailing ones.
+// The index of the lowest of so many bits that is neither set nor closed: the trailing zeros of the complement, as document 01 wants it,
+// and not the trailing ones.
 #[tactic(auto, using(crate::proofs::Bytes::first_zero_is))]
 fn first_zero(word: u8, bits: u8, closed: u8) -> Option<u8>
     requires { bits ≤ 8 }
