@@ -32,13 +32,13 @@ impl Done {
         }
     }
 
-    // The state that a call left of the one that it was lent.
-    pub fn left(outcome: Result<(), Refusal>, state: State) -> Done
-        ensures { result ≡ done (answered outcome) state }
+    // The state that a call left of the one that it was lent. Lent here too: by value it is copied once more.
+    pub fn left(outcome: Result<(), Refusal>, state: &State) -> Done
+        ensures { result ≡ done (answered outcome) state.now }
     {
         Done {
             answer: answered(&outcome),
-            state,
+            state: *state,
         }
     }
 }

@@ -51,7 +51,7 @@ pub extern "C" fn zevgorim_event(mut state: State, kind: u32, process: u32) -> D
 {
     Done::left(
         event::event(&mut state, narrowed(kind), narrowed(process)),
-        state,
+        &state,
     )
 }
 
@@ -60,7 +60,7 @@ pub extern "C" fn zevgorim_event(mut state: State, kind: u32, process: u32) -> D
 pub extern "C" fn zevgorim_request(mut state: State, process: u32) -> Done
     ensures { result ≡ Event.event state Kind·request process }
 {
-    Done::left(event::request(&mut state, narrowed(process)), state)
+    Done::left(event::request(&mut state, narrowed(process)), &state)
 }
 
 #[unsafe(no_mangle)]
@@ -68,7 +68,7 @@ pub extern "C" fn zevgorim_request(mut state: State, process: u32) -> Done
 pub extern "C" fn zevgorim_step(mut state: State, process: u32) -> Done
     ensures { result ≡ Event.event state Kind·step process }
 {
-    Done::left(event::step(&mut state, narrowed(process)), state)
+    Done::left(event::step(&mut state, narrowed(process)), &state)
 }
 
 #[unsafe(no_mangle)]
@@ -76,7 +76,7 @@ pub extern "C" fn zevgorim_step(mut state: State, process: u32) -> Done
 pub extern "C" fn zevgorim_release(mut state: State, process: u32) -> Done
     ensures { result ≡ Event.event state Kind·release process }
 {
-    Done::left(event::release(&mut state, narrowed(process)), state)
+    Done::left(event::release(&mut state, narrowed(process)), &state)
 }
 
 #[unsafe(no_mangle)]
@@ -84,7 +84,7 @@ pub extern "C" fn zevgorim_run(mut state: State, events: &[u8], journal: &mut [u
     ensures done { result ≡ Lists.run state events.now journal.old }
     ensures journal { journal.new ≡ Lists.run_journal state events.now journal.old }
 {
-    Done::left(list::run(&mut state, events, journal), state)
+    Done::left(list::run(&mut state, events, journal), &state)
 }
 
 #[unsafe(no_mangle)]
