@@ -121,7 +121,7 @@ enum {
 enum {
     ZEVGORIM_STACK_SETUP = 3072, /* setup, partial_setup */
     ZEVGORIM_STACK_CLOSED_SETUP = 3072,
-    ZEVGORIM_STACK_EVENT = 960, /* event, request, step, release, run */
+    ZEVGORIM_STACK_EVENT = 1024, /* event, request, step, release, run */
     ZEVGORIM_STACK_REPORT = 960, /* gate_report, fill_status */
     ZEVGORIM_STACK_READ_SETUP = 4224,
     ZEVGORIM_STACK_SMALL = 128, /* file_answer, read_events, write_file, journal_text, dearest_list */

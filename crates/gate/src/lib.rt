@@ -1,4 +1,5 @@
-// The gate word and its queue: entering, waiting and leaving. For the operations; a user calls those above them.
+// The gate word and its queue: entering, waiting and leaving. For the operations, of which they are made part (`inline(always)`); a user
+// calls those above them.
 #![tactic(auto)]
 
 ghost use Rattle.std.specs.Borrow.{Array, LendsIf, sem};
@@ -27,6 +28,7 @@ fn record_of(process: &mut [Process], p: u8) -> Option<&mut Process>
 
 // Stage 1: past the gate, or to the queue's end.
 #[tactic(auto, unfolding(machine::specs::Gate::enter, machine::specs::Gate::above0, machine::specs::Room::can_fall))]
+#[inline(always)]
 pub fn enter(s: &mut State, p: u8) -> Result<(), Refusal>
     ensures { done (answered result) s.new ≡ where_room (enter_room s.old) (enter s.old p) s.old }
 {
@@ -63,6 +65,7 @@ fn is_queued(s: &State, p: u8) -> bool
 
 // Stage 2: on to stage 3 once out of the queue.
 #[tactic(auto, using(crate::proofs::Queue::await_is, crate::proofs::Queue::none_past_the_end))]
+#[inline(always)]
 pub fn wait(s: &mut State, p: u8)
     requires { s.old.queued ≤ 64 }
     ensures { s.new ≡ await s.old p }
@@ -90,6 +93,7 @@ fn advance(s: &mut State)
 // Stage 5 at node 1: the queue's head, if there is one, leaves, and the gate word rises, to `open_names` at most. That these are at most 64
 // is of one argument, and stays a clause.
 #[tactic(auto, unfolding(machine::specs::Gate::leave, machine::specs::Gate::head_gone, machine::specs::Room::can_rise))]
+#[inline(always)]
 pub fn leave(s: &mut State, p: u8, open_names: u8) -> Result<(), Refusal>
     requires { open_names ≤ 64 }
     ensures { done (answered result) s.new ≡ where_room (can_rise open_names s.old.gate) (leave s.old p) s.old }

@@ -60,6 +60,7 @@ fn claim(mut h: Process, step: ClaimStep) -> Process
 
 // At a node below L: bounded_decrement of its counter.
 #[tactic(auto, unfolding(machine::specs::Getname::descend, machine::specs::Operations::bounded_decrement))]
+#[inline(always)]
 pub fn descend(s: &mut State, p: Place) -> Result<(), Refusal>
     requires node { (process_at s.old p).node < 16 }
     ensures { done (answered result) s.new ≡ where_room (getname_room s.old p) (descend s.old p) s.old }
@@ -72,6 +73,7 @@ pub fn descend(s: &mut State, p: Place) -> Result<(), Refusal>
 
 // At a leaf: set_first_zero on its segment word.
 #[tactic(auto, unfolding(machine::specs::Getname::probe, machine::specs::Operations::set_first_zero))]
+#[inline(always)]
 pub fn probe(s: &mut State, p: Place) -> Result<(), Refusal>
     requires told { Setting s.old.setup (process_at s.old p) }
     requires leaf { s.old.setup.leaves ≤ (process_at s.old p).node }

@@ -2,7 +2,8 @@
 // those. What is told of a process, and that the state is in range, stays in clauses. A struct of the lent state, the place and that fact
 // is refused by the borrow checker where it is taken by value and written through; by `&mut` `probe` was not proved, and each method owes,
 // for a clause that goes, one that it still lends that state, and the fact of its new record. A copy of the process's numbers needs one
-// that ties it to the state.
+// that ties it to the state. All of it is made part of each call that carries out events (`inline(always)`): as one function that they
+// share, an event of a list took 23 to 25 instructions more, of some 100.
 #![tactic(auto)]
 
 mod getname;
@@ -39,6 +40,7 @@ fn request(s: &mut State, p: Place) -> Result<(), Refusal>
 
 // Step (turn), never in the remainder section or at work; the stage decides: document 01 wants the match over its number.
 #[tactic(auto, using(crate::proofs::Turns::turns), unfolding(machine::specs::Getname::getname_step, machine::specs::Putname::putname_step))]
+#[inline(always)]
 fn step(s: &mut State, p: Place) -> Result<(), Refusal>
     requires range { in_range s.old ≡ true }
     requires known { p < s.old.setup.processes }
@@ -76,6 +78,7 @@ fn release(s: &mut State, p: Place) -> Result<(), Refusal>
 
 // An event of this kind: a stranger first, then the refusals of the kind.
 #[tactic(auto, using(crate::proofs::Turns::turns), unfolding(machine::specs::Event::event))]
+#[inline(always)]
 pub fn carry_out(s: &mut State, kind: Kind, p: u8) -> Result<(), Refusal>
     requires { in_range s.old ≡ true }
     ensures { done (answered result) s.new ≡ event s.old (code kind) p }
@@ -93,6 +96,7 @@ pub fn carry_out(s: &mut State, kind: Kind, p: u8) -> Result<(), Refusal>
 
 // An event: an unknown kind is refused before all else.
 #[tactic(auto, unfolding(machine::specs::Event::event))]
+#[inline(always)]
 pub fn event(s: &mut State, kind: u8, p: u8) -> Result<(), Refusal>
     requires { in_range s.old ≡ true }
     ensures { done (answered result) s.new ≡ event s.old kind p }

@@ -25,6 +25,7 @@ fn returned(h: Process) -> Process
 
 // With a name: its bit is cleared.
 #[tactic(auto, unfolding(machine::specs::Putname::give_back))]
+#[inline(always)]
 pub fn give_back(s: &mut State, p: Place) -> Result<(), Refusal>
     requires told { Setting s.old.setup (process_at s.old p) }
     requires named { (process_at s.old p).name ≢ none }
@@ -40,6 +41,7 @@ pub fn give_back(s: &mut State, p: Place) -> Result<(), Refusal>
 
 // With no name, above node 1: up to the parent, whose counter rises from a left child.
 #[tactic(auto, unfolding(machine::specs::Putname::climb))]
+#[inline(always)]
 pub fn climb(s: &mut State, p: Place) -> Result<(), Refusal>
     requires told { Setting s.old.setup (process_at s.old p) }
     requires above { 1 < (process_at s.old p).node }

@@ -50,11 +50,13 @@ fn is_open(closed: u64, m: u8) -> bool
     (closed::lowest(closed, 63) >> (m % 64)) % 2 == 0
 }
 
-// Has no process a closed name below 63?
+// Has no process a closed name below 63? By a fold: as `all`, an event with 64 processes took some 80 instructions more.
 fn names_open(process: &[Process], closed: u64) -> bool
     ensures { result ≡ all_below (length process.now) (λ p. shut_test closed (get_or process.now p no_process).name) }
 {
-    process.iter().all(|p| is_open(closed, p.name))
+    process
+        .iter()
+        .fold(true, |open, p| open & is_open(closed, p.name))
 }
 
 // Is each number of each process in its range, but for closed names below 63? The greatest of each is compared, a node less 1 and a name
