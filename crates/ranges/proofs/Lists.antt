@@ -4,7 +4,6 @@
 --     placed_below      a test of numbers beside their places
 --     numbers_below     a test of the numbers of a range
 --     padded            a test of the numbers below a bound, among more
---     serves_fold       what a fold over a range asks of its closure
 --     greatest_of       the greatest of all numbers, as a fold finds it
 use mathlib.Core.Bool.{and_assoc}
 use native.Mathlib.Decide.{dec_lt}
@@ -14,10 +13,6 @@ use Rattle.std.proofs.lemmas.List.Sums.{fold_more}
 use Rattle.std.proofs.lemmas.List.Folds.{list_all_more}
 use Rattle.std.proofs.lemmas.List.FromFn.{length-range_with_len, get_or-range_with_len}
 use Rattle.std.proofs.lemmas.Slice.Zip.{length-zip, get_or-zip}
-use Rattle.std.proofs.iter.Yields.{nat_range_steps}
-use Rattle.std.proofs.lemmas.Fn.{chained_keeps}
-use Rattle.std.specs.Iterator.{Yields, CallableAtEachTurn}
-use Rattle.std.specs.declared.ops.Range.{Range}
 use Rattle.std.specs.List.{list_all, range_with_len, zip}
 use Rattle.machine.proofs.Rules.{◌≡◌, ◌∙◌, sym, ap, refl, Bool, true, ◌&&◌, ◌||◌, and-true, or-true, inl, le-leb, lt-leb}
 use Rattle.machine.specs.Below.{all_below}
@@ -45,18 +40,18 @@ module _ {A : Type 0} (test : A → Bool) where
   fold_all b [] = sym (and-true b)
   fold_all b (x ∷ xs) = fold_all (b && test x) xs ∙ and_assoc b (test x) (list_all test xs)
 
-pub placed_below : (test : ℕ × ℕ → Bool) (xs : List ℕ) (n : ℕ) → length xs ≡ n
+pub placed_below : (test : ℕ × ℕ → Bool) (xs : List ℕ) (n : ℕ) → n ≤ length xs
     → list_all test (zip xs (range_with_len 0 n)) ≡ all_below n (λ i. test (get_or xs i 0, i))
-placed_below test xs n e =
+placed_below test xs n l =
     let places = zip xs (range_with_len 0 n) in
-    let all : length places ≡ n = omega (arith, e, length-zip xs (range_with_len 0 n), length-range_with_len 0 n) in
+    let all : length places ≡ n = omega (arith, l, length-zip xs (range_with_len 0 n), length-range_with_len 0 n) in
     list_all_below test (0, 0) places
     ∙ ap (λ (m : ℕ). all_below m (λ i. test (get_or places i (0, 0)))) all
     ∙ all_same n (λ i. test (get_or places i (0, 0))) (λ i. test (get_or xs i 0, i))
-    (λ i l.
+    (λ i k.
     ap test
-    (get_or-zip xs (range_with_len 0 n) i (0, 0) (omega (arith, e)) (omega (arith, length-range_with_len 0 n))
-    ∙ ap (λ (j : ℕ). (get_or xs i 0, j)) {x = get_or (range_with_len 0 n) i 0} {y = i} (omega (arith, get_or-range_with_len 0 n i 0 l))))
+    (get_or-zip xs (range_with_len 0 n) i (0, 0) (omega (arith, l, k)) (omega (arith, k, length-range_with_len 0 n))
+    ∙ ap (λ (j : ℕ). (get_or xs i 0, j)) {x = get_or (range_with_len 0 n) i 0} {y = i} (omega (arith, get_or-range_with_len 0 n i 0 k))))
 
 pub numbers_below : (test : ℕ → Bool) (n : ℕ) → list_all test (range_with_len 0 n) ≡ all_below n test
 numbers_below test n =
@@ -74,22 +69,6 @@ padded n m f l =
     one : (i : ℕ) → Dec (i < n) → all_below n f ≡ true → (leb n i || f i) ≡ true
     one i (yes k) e = rw (all_at n f e i k) (or-true (leb n i))
     one i (no k) e = rw (le-leb n i (omega (arith, k)))
-
-within : (xs : List ℕ) (s t : Range ℕ) → Yields nat_range_steps s xs t → (t.end ≡ s.end) × (s.start ≤ t.start)
-within [] s t y = (sym (ap (λ (k : Range ℕ). k.end) y), omega (arith, ap (λ (k : Range ℕ). k.start) y))
-within (x ∷ xs) s t y = let h = within xs y.0 t y.2 in (h.0 ∙ y.1.0, omega (arith, h.1, y.1.1.2))
-
--- what a fold over a range asks of its closure: for the range's numbers, and the closure stays as it is
-module _ {F C : Type 0} {R : F × C → ℕ → F × C → Type 0} {Q : F × C → ℕ → Type 0} (f : F) where
-  pub serves_fold : {s : Range ℕ} {a : C} → ((x : ℕ) (p q : F × C) → p.0 ≡ f → R p x q → q.0 ≡ f)
-      → ((x : ℕ) (b : C) → s.start ≤ x → x < s.end → Q (f, b) x) → CallableAtEachTurn nat_range_steps R Q s (f, a)
-  serves_fold {s} {a} stays asks =
-      record {
-        at = λ xs t q x u y c e.
-            let w = within xs s t y in
-            let same : q.0 ≡ f = chained_keeps R (λ _ (p : F × C). p.0 ≡ f) (λ _ p z r k h. stays z p r k h) xs (f, a) q refl c in
-            subst (λ (g : F). Q (g, q.1) x) (sym same) (asks x q.1 (omega (arith, w.1, e.1.1)) (omega (arith, w.0, e.1.0, e.1.1)));
-      }
 
 module _ (xs : List ℕ) where
   front_greatest : (i : ℕ) → i ≤ length xs → Greatest xs i (fold max 0 (take i xs))

@@ -53,25 +53,19 @@ fn words_in_range(words: &[u8; 64], accepted: Accepted) -> bool
     u16::from(greatest(used)) < 1u16 << setup.bits
 }
 
-// Has segment word r no closed bit set? Words and setup stay two arguments: a struct of both, for three functions, would be longer.
-fn word_open(words: &[u8; 64], accepted: Accepted, r: u8) -> bool
-    requires { (r < 64) × (r < accepted.leaves * accepted.segments) }
-    ensures { result ≡ closed_test accepted words.now r }
-{
-    words[usize::from(r)] & accepted.closed_word(r) == 0
-}
-
-// The segment words in use have no closed bit set. A fold stops nowhere: as `all`, 32 words took some 550 instructions in place of 380. By
-// place: `closed_word` asks for one below L·g, which is known of the numbers of a range, and not of pairs from `zip`.
+// The segment words in use have no closed bit set. A fold stops nowhere: as `all`, 32 words took some 550 instructions in place of 380.
+// Words and setup stay two arguments: a struct of both, for two functions, would be longer.
 fn words_open(words: &[u8; 64], accepted: Accepted) -> bool
     ensures { result ≡ all_below (accepted.leaves * accepted.segments) (closed_test accepted words.now) }
 {
     let setup = accepted.setup();
     setup.closed == 0
-        || (0..setup.leaves * setup.segments).fold(
-            true,
-            |open, r| open & word_open(words, accepted, r),
-        )
+        || words
+            .iter()
+            .zip(0..setup.leaves * setup.segments)
+            .fold(true, |open, (&word, r)| {
+                open & (word & accepted.closed_word(r) == 0)
+            })
 }
 
 // The gate word and its queue of 0 to 64.

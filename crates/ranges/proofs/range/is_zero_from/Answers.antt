@@ -1,5 +1,5 @@
 -- The fold of the numbers beside their places is the test of each place.
-use Rattle.std.proofs.Common.{◌∙◌, ℕ, Bool, true, ◌&&◌, ◌||◌, eqb, ltb, rules, tests}
+use Rattle.std.proofs.Common.{◌∙◌, ℕ, Bool, true, ◌&&◌, ◌||◌, eqb, ltb, arith, rules, tests}
 use Rattle.std.proofs.lemmas.Iterator.{YieldsList-from_slice, YieldsList-from_range, YieldsList-from_zip}
 use Rattle.std.proofs.lemmas.Iterator.Consumers.{fold_from_yields_List}
 use Rattle.std.specs.List.{range_with_len, zip}
@@ -15,4 +15,4 @@ returns c =
     (YieldsList-from_zip (YieldsList-from_slice xs (search rules)) (YieldsList-from_range 0 64 64 (search rules) (search rules)))
     (λ b x r f k. search (rules, tests))
     ∙ fold_all test true (zip xs (range_with_len 0 64))
-    ∙ placed_below test xs 64 c.told-xs
+    ∙ placed_below test xs 64 (omega (arith, c.told-xs))
