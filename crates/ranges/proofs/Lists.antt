@@ -7,7 +7,7 @@
 --     greatest_of       the greatest of all numbers, as a fold finds it
 use mathlib.Core.Bool.{and_assoc}
 use native.Mathlib.Decide.{dec_lt}
-use Rattle.std.proofs.Common.{ℕ, zero, suc, ◌≤◌, ◌<◌, max, List, [], ◌∷◌, length, take, get_or, fold, leb, arith, add-one, subst}
+use Rattle.std.proofs.Common.{ℕ, zero, suc, ◌≤◌, ◌<◌, max, List, [], ◌∷◌, length, take, get_or, fold, leb, arith, add-one}
 use Rattle.std.proofs.lemmas.List.{take_all}
 use Rattle.std.proofs.lemmas.List.Sums.{fold_more}
 use Rattle.std.proofs.lemmas.List.Folds.{list_all_more}

@@ -51,6 +51,9 @@ module _ (c : Setup) (accepted : setup_answer c ≡ 0) (m : ℕ) (m255 : m ≤ 2
       go (yes z) = rw (eq-eqb high 0 z) (f z)
       go (no z) = rw (ne_eqb high 0 z) (g z)
 
+  pub limit_64 : name_limit c ≤ 64
+  limit_64 = by_limit (λ (x : ℕ). x ≤ 64) (λ _. k64) (λ _. omega arith)
+
   -- a name below k is not none
   own : m < k → name_test c m ≡ is_open c m
   own l = simp (lt-ltb m k l, ne_eqb m 255 (λ q. absurd (omega (arith, l, k64, q))), or-false)

@@ -18,7 +18,7 @@ use Rattle.machine.specs.declared.Setup.{Setup}
 use Rattle.machine.proofs.Facts.Below.{all_in, all_at, all_same}
 use Rattle.machine.proofs.Facts.Tests.{all_of_lem, and_comm, both, and_left, and_right, same_test}
 use Rattle.machine.proofs.Ranges.{limits_of}
-use Rattle.ranges.specs.Tests.{name_limit, shut_test, ranked}
+use Rattle.ranges.specs.Tests.{name_limit, shut_test, ranks_fit, ranked}
 use Rattle.ranges.proofs.Names.{name_ranked}
 
 -- the greater of two numbers passes where both do
@@ -53,37 +53,36 @@ joined {x} {y} a s b t e f = rw (e, f) (swapped a s b t)
     swapped true s false t = and-false s
     swapped true s true t = refl
 
--- what was found, but for the stage; for stage and node; and the name and the sums alone
 module _ (c : Setup) where
-  abbrev named : ℕ → Bool → Bool
-  named name fits = leb name (name_limit c) && fits
+  -- but for the stage; for stage and node
+  abbrev placed : ℕ → ℕ → Bool
+  placed segment name = ltb segment c.segments && leb name (name_limit c)
 
-  abbrev placed : ℕ → ℕ → Bool → Bool
-  placed segment name fits = ltb segment c.segments && named name fits
-
-  abbrev rooted : ℕ → ℕ → ℕ → Bool → Bool
-  rooted node segment name fits = leb node (2 * c.leaves - 2) && placed segment name fits
+  abbrev rooted : ℕ → ℕ → ℕ → Bool
+  rooted node segment name = leb node (2 * c.leaves - 2) && placed segment name
 
   -- the greatest stage, node (less 1), segment and name (more 1), each at most what it may be, and each sum a byte
   abbrev pub found : ℕ → ℕ → ℕ → ℕ → Bool → Bool
-  found stage node segment name fits = leb stage exhausted && rooted node segment name fits
+  found stage node segment name fits = ranks_fit c stage node segment name && fits
 
   pub found_none : 1 ≤ c.segments → found 0 0 0 0 true ≡ true
   found_none g1 =
-      both (le-leb 0 exhausted (omega arith))
-      (both (le-leb 0 (2 * c.leaves - 2) (omega arith))
-      (both (lt-ltb 0 c.segments g1) (both (le-leb 0 (name_limit c) (omega arith)) refl)))
+      both
+      (both (le-leb 0 exhausted (omega arith))
+      (both (le-leb 0 (2 * c.leaves - 2) (omega arith)) (both (lt-ltb 0 c.segments g1) (le-leb 0 (name_limit c) (omega arith)))))
+      refl
 
   pub one_more : (stage node segment name : ℕ) (fits : Bool) (u v w m : ℕ) (x : Bool)
       → found (max stage u) (max node v) (max segment w) (max name m) (fits && x)
       ≡ (found u v w m x && found stage node segment name fits)
   one_more stage node segment name fits u v w m x =
-      joined (leb u exhausted) (leb stage exhausted) (rooted v w m x) (rooted node segment name fits) (most_le stage u exhausted)
-      (joined (leb v (2 * c.leaves - 2)) (leb node (2 * c.leaves - 2)) (placed w m x) (placed segment name fits)
+      joined (ranks_fit c u v w m) (ranks_fit c stage node segment name) x fits
+      (joined (leb u exhausted) (leb stage exhausted) (rooted v w m) (rooted node segment name) (most_le stage u exhausted)
+      (joined (leb v (2 * c.leaves - 2)) (leb node (2 * c.leaves - 2)) (placed w m) (placed segment name)
       (most_le node v (2 * c.leaves - 2))
-      (joined (ltb w c.segments) (ltb segment c.segments) (named m x) (named name fits)
-      (most_lt segment w c.segments)
-      (joined (leb m (name_limit c)) (leb name (name_limit c)) x fits (most_le name m (name_limit c)) (and_comm fits x))))
+      (joined (ltb w c.segments) (ltb segment c.segments) (leb m (name_limit c)) (leb name (name_limit c))
+      (most_lt segment w c.segments) (most_le name m (name_limit c)))))
+      (and_comm fits x)
 
   -- of one process
   pub found_one : (h : Process) (v m : ℕ) (x : Bool) → leb v (2 * c.leaves - 2) ≡ (leb 1 h.node && ltb h.node (2 * c.leaves))
@@ -91,7 +90,7 @@ module _ (c : Setup) where
   found_one h v m x node name fits = rw (node, name, fits)
 
 regrouped : (a b c d e s f : Bool)
-    → (a && (b && (c && (d && ((e && s) && (f && true)))))) ≡ ((a && ((b && c) && (d && (e && f)))) && s)
+    → (a && (b && (c && (d && ((e && s) && (f && true)))))) ≡ (((a && ((b && c) && (d && e))) && f) && s)
 regrouped false b c d e s f = refl
 regrouped true false c d e s f = refl
 regrouped true true false d e s f = refl

@@ -1,11 +1,13 @@
-// The processes of a state. The greatest of each number is kept, in a loop that stops nowhere, so that the compiler takes many numbers at
-// once: tested one process after another, by `all`, an event took up to 16 % more time, and with long rows 1.58 times the simulator's in
-// place of 1.35, where the bar is 1.5.
+// The processes of a state. The greatest of each number is kept, in a loop that stops nowhere, and the four of them are tested side by side,
+// so that the compiler takes the four at once in the loop, too: an event with 64 processes took 1,510 instructions, 1,960 with a test of
+// each process by `all`, and 2,610 with a comparison for each of the four.
 ghost use Rattle.std.specs.Prelude.{◌≡◌, ℕ, ◌+◌, ◌-◌, ◌*◌, ◌%◌, ◌<◌, ◌≤◌, ◌&&◌, nat_le, nat_lt, length, get_or};
 ghost use Rattle.machine.specs.Below.{all_below};
 ghost use Rattle.machine.specs.Range.{process_test};
+ghost use Rattle.machine.specs.Setup.{setup_answer};
 ghost use Rattle.machine.specs.State.{no_process};
-ghost use Rattle.ranges.specs.Tests.{ranked, name_limit, shut_test};
+ghost use Rattle.machine.specs.declared.Setup.{Setup};
+ghost use Rattle.ranges.specs.Tests.{byte_test, headroom, ranks_fit, ranked, name_limit, shut_test};
 
 use fresh::accepted::Accepted;
 use fresh::closed;
@@ -59,13 +61,43 @@ fn names_open(process: &[Process], closed: u64) -> bool
         .fold(true, |open, p| open & is_open(closed, p.name))
 }
 
+// Is each of the four bytes below 128? The highest bit of each tells.
+fn bytes_below_128(x: u32) -> bool
+    ensures { result ≡ all_below 4 (byte_test x) }
+{
+    x & 0x8080_8080 == 0
+}
+
+// What the greatest stage, node less 1, segment and name more 1 lack to 127, a byte each.
+fn headroom(accepted: Accepted) -> u32
+    ensures value { result ≡ headroom accepted }
+    ensures accepted { setup_answer accepted ≡ 0 }
+{
+    let setup = accepted.setup();
+    u32::from_le_bytes([
+        127 - stage::EXHAUSTED,
+        127 - (2 * setup.leaves - 2),
+        127 - (setup.segments - 1),
+        127 - name_limit(accepted),
+    ])
+}
+
+// Are a stage, a node less 1, a segment and a name more 1 in their ranges? A byte below 128 is at most its limit where it stays below 128
+// with what the limit lacks to 127 added to it; a greater one, which may carry into the next, is seen before.
+fn ranks_fit(stage: u8, node: u8, segment: u8, name: u8, room: u32) -> bool
+    ensures { (c : Setup) → setup_answer c ≡ 0 → room ≡ headroom c → result ≡ ranks_fit c stage node segment name }
+{
+    let ranks = u32::from_le_bytes([stage, node, segment, name]);
+    bytes_below_128(ranks) && bytes_below_128(ranks.wrapping_add(room))
+}
+
 // Is each number of each process in its range, but for closed names below 63? The greatest of each is compared, a node less 1 and a name
 // more 1, so that node 0 is the greatest and no name the least.
 fn numbers_in_range(process: &[Process], accepted: Accepted) -> bool
     ensures tests { result ≡ all_below (length process.now) (λ p. ranked accepted (get_or process.now p no_process)) }
     ensures bytes { (p : ℕ) → p < length process.now → (get_or process.now p no_process).name ≤ 255 }
 {
-    let setup = accepted.setup();
+    let room = headroom(accepted);
     let mut stage = 0u8;
     let mut node = 0u8;
     let mut segment = 0u8;
@@ -78,11 +110,7 @@ fn numbers_in_range(process: &[Process], accepted: Accepted) -> bool
         name = name.max(name_rank(p.name));
         fits &= sum_fits(p.steps, p.returns);
     }
-    stage <= stage::EXHAUSTED
-        && node <= 2 * setup.leaves - 2
-        && segment < setup.segments
-        && name <= name_limit(accepted)
-        && fits
+    ranks_fit(stage, node, segment, name, room) && fits
 }
 
 // Is each of the processes in use in its ranges? With none closed no name is looked up.

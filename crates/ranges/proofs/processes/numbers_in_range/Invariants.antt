@@ -9,7 +9,7 @@ use Rattle.ranges.proofs.processes.numbers_in_range.Given as goal
 abbrev pub invariant-loop-p : goal.invariant-loop-p
 invariant-loop-p l =
     record {
-      passed : found l.accepted l.stage l.node l.segment l.name l.fits
-          ≡ all_below l.p-index (λ i. ranked l.accepted (get_or l.process i no_process));
+      passed : found l.fn.accepted l.stage l.node l.segment l.name l.fits
+          ≡ all_below l.p-index (λ i. ranked l.fn.accepted (get_or l.process i no_process));
       bytes : (i : ℕ) → i < l.p-index → (get_or l.process i no_process).name ≤ 255;
     }

@@ -37,14 +37,14 @@ overflow_shr-rest c =
 pub bounds-self-from : goal.bounds-self-from
 bounds-self-from c = rw c.from.ensures (place c.args.d c.args.i c.requires.0 c.requires.1.1)
 
-pub closed_in-requires : goal.closed_in-requires
-closed_in-requires c =
+pub ones_of_lowest-requires : goal.ones_of_lowest-requires
+ones_of_lowest-requires c =
     let s = c.args.self.now.accepted in
     let k = limits_of s (same_answer c.setup-closed.ensures.value c.setup-closed.ensures.accepted) in
-    (omega arith, rw c.names.ensures (share_32 (names s) c.args.d k.k64))
+    rw c.names.ensures (share_32 (names s) c.args.d k.k64)
 
 pub overflow_sub-result : goal.overflow_sub-result
-overflow_sub-result c = rw c.closed_in.ensures (closed_le _ _ _)
+overflow_sub-result c = rw c.ones_of_lowest.ensures (closed_le _ _ _)
 
 pub returns : goal.returns
 returns c =
@@ -57,6 +57,6 @@ returns c =
     let double = doubled_le s.leaves d k.leaves (omega (arith, deep)) c.requires.1.0 in
     let inside : 2 ^ d + i < s.leaves = omega (arith, l, double, ap (λ (x : ℕ). 2 ^ x) (add-one d), pow-succ' 2 d) in
     let n = names s / 2 ^ (d + 1) in
-    let shut : c.closed_in.result ≡ closed_in s.closed (2 * i * n) n
-    = (rw (c.setup-closed.ensures.value, c.names.ensures) at c.closed_in.ensures) ∙ left_closed s.closed n i refl in
+    let shut : c.ones_of_lowest.result ≡ closed_in s.closed (2 * i * n) n
+    = (rw (c.setup-closed.ensures.value, c.names.ensures) at c.ones_of_lowest.ensures) ∙ left_closed s.closed n i refl in
     rw (c.from.ensures, nodes d i deep l, c.names.ensures, shut) (level_test_lem s c.args.self.now.counters.now k d i deep l inside)
