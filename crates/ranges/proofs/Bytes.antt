@@ -74,6 +74,18 @@ module _ {a b c d r s t u : ℕ} (a8 : a < 256) (b8 : b < 256) (c8 : c < 256) (d
   abbrev raised : ℕ
   raised = (four a b c d + four r s t u) % 4294967296
 
+  -- the tests of the sums, one by one
+  sums_of : (ltb (a + r) 128 && (ltb (b + s) 128 && (ltb (c + t) 128 && ltb (d + u) 128))) ≡ true → Small (a + r) (b + s) (c + t) (d + u)
+  sums_of e =
+      let three : (ltb (b + s) 128 && (ltb (c + t) 128 && ltb (d + u) 128)) ≡ true = and_right (ltb (a + r) 128) _ e in
+      let two : (ltb (c + t) 128 && ltb (d + u) 128) ≡ true = and_right (ltb (b + s) 128) _ three in
+      record {
+        first = ltb-true (a + r) 128 (and_left _ _ e);
+        second = ltb-true (b + s) 128 (and_left _ _ three);
+        third = ltb-true (c + t) 128 (and_left _ _ two);
+        fourth = ltb-true (d + u) 128 (and_right _ _ two);
+      }
+
   pub limits_tested : (all_below 4 (byte_test (four a b c d)) && all_below 4 (byte_test raised))
       ≡ (ltb (a + r) 128 && (ltb (b + s) 128 && (ltb (c + t) 128 && ltb (d + u) 128)))
   limits_tested =
@@ -86,14 +98,7 @@ module _ {a b c d r s t u : ℕ} (a8 : a < 256) (b8 : b < 256) (c8 : c < 256) (d
       both (lt-ltb (a + r) 128 high.first)
       (both (lt-ltb (b + s) 128 high.second) (both (lt-ltb (c + t) 128 high.third) (lt-ltb (d + u) 128 high.fourth))))
       (λ e.
-      let rest = and_right _ _ e in
-      let last = and_right _ _ rest in
-      let sums : Small (a + r) (b + s) (c + t) (d + u) = record {
-        first = ltb-true (a + r) 128 (and_left _ _ e);
-        second = ltb-true (b + s) 128 (and_left _ _ rest);
-        third = ltb-true (c + t) 128 (and_left _ _ last);
-        fourth = ltb-true (d + u) 128 (and_right _ _ last);
-      } in
+      let sums = sums_of e in
       let low : Small a b c d = record {
         first = omega (arith, sums.first);
         second = omega (arith, sums.second);
@@ -125,7 +130,8 @@ module _ (c : Setup) (accepted : setup_answer c ≡ 0) (stage node segment name 
   abbrev ranks : ℕ
   ranks = four stage node segment name
 
-  tested : (all_below 4 (byte_test ranks) && all_below 4 (byte_test ((ranks + headroom c) % 2 ^ 32))) ≡ ranks_fit c stage node segment name
+  tested : (all_below 4 (byte_test ranks) && all_below 4 (byte_test ((ranks + headroom c) % 2 ^ 32)))
+      ≡ ranks_fit c stage node segment name
   unfolding headroom
   tested =
       let k = limits_of c accepted in
@@ -154,5 +160,6 @@ module _ (c : Setup) (accepted : setup_answer c ≡ 0) (stage node segment name 
     pub first_fails : all_below 4 (byte_test x) ≡ false → false ≡ ranks_fit c stage node segment name
     first_fails e = sym (ap (λ (t : Bool). t && all_below 4 (byte_test ((x + r) % 2 ^ 32))) e) ∙ both_tested
 
-    pub second_decides : all_below 4 (byte_test x) ≡ true → all_below 4 (byte_test ((x + r) % 2 ^ 32)) ≡ ranks_fit c stage node segment name
+    pub second_decides : all_below 4 (byte_test x) ≡ true
+        → all_below 4 (byte_test ((x + r) % 2 ^ 32)) ≡ ranks_fit c stage node segment name
     second_decides e = sym (ap (λ (t : Bool). t && all_below 4 (byte_test ((x + r) % 2 ^ 32))) e) ∙ both_tested

@@ -78,7 +78,7 @@ module _ (c : Setup) (accepted : setup_answer c ≡ 0) (m : ℕ) (m255 : m ≤ 2
       eq-eqb _ 0 (ap (λ (x : ℕ). bit c.closed x) e ∙ ap (λ (x : ℕ). x % 2) z)
       ∙ sym (le-leb ((m + 1) % 256) k (omega (arith, l, k64))))
       (λ z.
-      ne_eqb _ 0 (λ n. absurd (z (omega (arith, high_low, sym (ap (λ (x : ℕ). bit c.closed x) e) ∙ n))))
+      ne_eqb (bit c.closed m) 0 (λ (n : bit c.closed m ≡ 0). absurd (z (omega (arith, high_low, sym (ap (λ (x : ℕ). bit c.closed x) e) ∙ n))))
       ∙ sym (lt-leb ((m + 1) % 256) 63 (omega (arith, e))))
 
   pub name_ranked : name_test c m ≡ (leb ((m + 1) % 256) (name_limit c) && shut_test c.closed m)

@@ -60,7 +60,9 @@ unfolding all_below
 from_first n f =
     ap (λ (m : ℕ). all_below m f) {x = suc n} {y = 1 + n} (omega arith)
     ∙ all_parts 1 n f
-    ∙ rw (and-true (f 0)) (ap (λ (t : Bool). t && f 0) (all_same n (λ i. f (1 + i)) (λ i. f (suc i)) (λ i _. ap f {x = 1 + i} {y = suc i} (omega arith))))
+    ∙ rw (and-true (f 0))
+    (ap (λ (t : Bool). t && f 0)
+    (all_same n (λ i. f (1 + i)) (λ i. f (suc i)) (λ i _. ap f {x = 1 + i} {y = suc i} (omega arith))))
 
 -- words of b bits, and what a number has beside them
 module _ (b : ℕ) where
@@ -94,7 +96,8 @@ module _ (b : ℕ) where
       let low = small ws (next w ws few) (fewer (length ws) l) in
       let room = room_for (length ws) p l low in
       let word = first w ws few in
-      let is : put b p w ≡ p * 2 ^ b + w = sym (div-add-mod' (put b p w) (2 ^ b)) ∙ rw (others b p w word room, last b p w word room) refl in
+      let is : put b p w ≡ p * 2 ^ b + w
+      = sym (div-add-mod' (put b p w) (2 ^ b)) ∙ rw (others b p w word room, last b p w word room) refl in
       rw (is, suc-mul (length ws) b, pow-add 2 (length ws * b) b) (omega (arith, word, suc-mul p (2 ^ b), mul-le-mul_right (2 ^ b) low))
 
   pub shares_none : (ws : List ℕ) (x : ℕ) → Words ws → length ws * b ≤ 64

@@ -1,6 +1,6 @@
-// The processes of a state. The greatest of each number is kept, in a loop that stops nowhere, and the four of them are tested side by side,
-// so that the compiler takes the four at once in the loop, too: an event with 64 processes took 1,510 instructions, 1,960 with a test of
-// each process by `all`, and 2,610 with a comparison for each of the four.
+// The processes of a state. The greatest of each number is kept, in a loop that stops nowhere, and the four of them are tested side by
+// side, so that the compiler takes the four at once in the loop, too: an event with 64 processes took 1,510 instructions, 1,960 with a test
+// of each process by `all`, and 2,610 with a comparison for each of the four.
 ghost use Rattle.std.specs.Prelude.{◌≡◌, ℕ, ◌+◌, ◌-◌, ◌*◌, ◌%◌, ◌<◌, ◌≤◌, ◌&&◌, nat_le, nat_lt, length, get_or};
 ghost use Rattle.machine.specs.Below.{all_below};
 ghost use Rattle.machine.specs.Range.{process_test};
