@@ -30,6 +30,7 @@ top_bit x p = ap (λ (q : ℕ). eqb (q % 2) 0) (sym (div-div-eq-div-mul x p 128)
         (λ e. lt-ltb (q % 256) 128 (omega (arith, eqb-true (q / 128 % 2) 0 e)))
         (λ e. eq-eqb (q / 128 % 2) 0 (omega (arith, ltb-true (q % 256) 128 e)))
 
+-- 0x80808080 is the highest bit of each of four bytes
 pub top_bits : (x : ℕ) → eqb (bit_and x 2155905152) 0 ≡ all_below 4 (byte_test x)
 unfolding all_below
 top_bits x =
@@ -72,7 +73,7 @@ module _ {a b c d : ℕ} (a8 : a < 256) (b8 : b < 256) (c8 : c < 256) (d8 : d < 
 -- four bytes, and what is added to each
 module _ {a b c d r s t u : ℕ} (a8 : a < 256) (b8 : b < 256) (c8 : c < 256) (d8 : d < 256) (ru : Small r s t u) where
   abbrev raised : ℕ
-  raised = (four a b c d + four r s t u) % 4294967296
+  raised = (four a b c d + four r s t u) % 2 ^ 32
 
   -- the tests of the sums, one by one
   sums_of : (ltb (a + r) 128 && (ltb (b + s) 128 && (ltb (c + t) 128 && ltb (d + u) 128))) ≡ true → Small (a + r) (b + s) (c + t) (d + u)
@@ -136,7 +137,7 @@ module _ (c : Setup) (accepted : setup_answer c ≡ 0) (stage node segment name 
   tested =
       let k = limits_of c accepted in
       let leaves = leaves_16 k in
-      let limit = limit_64 c accepted 0 (omega arith) in
+      let limit = limit_64 c accepted in
       limits_tested {r = 127 - exhausted} {s = 127 - (2 * c.leaves - 2)} {t = 127 - (c.segments - 1)} {u = 127 - name_limit c}
       (omega (arith, bytes)) (omega (arith, bytes)) (omega (arith, bytes)) (omega (arith, bytes))
       (record {

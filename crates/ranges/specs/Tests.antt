@@ -1,5 +1,5 @@
--- What helpers of the range check promise: the numbers past the queue's end, the greatest of numbers, the tests of a process, its name
--- apart, and of a node's counter.
+-- What helpers of the range check promise: the numbers past the queue's end, the greatest of numbers, words side by side, the tests of a
+-- process, its name apart, the bytes that its numbers are tested by, and the test of a node's counter.
 use Rattle.std.specs.Prelude.{◌≡◌, ℕ, ◌+◌, ◌-◌, ◌*◌, ◌/◌, ◌%◌, ◌^◌, ◌<◌, ◌≤◌, Bool, cond, ◌&&◌, ◌||◌, ◌⊎◌, List, [], ◌∷◌, ◌==◌}
 use Rattle.std.specs.Prelude.{nat_le, nat_lt, slice_index, bit_or}
 use Rattle.machine.specs.Operations.{bit}

@@ -11,8 +11,8 @@ use fresh::closed;
 // How many bits each number of four bits has.
 const ONES: [u8; 16] = [0, 1, 1, 2, 1, 2, 2, 3, 1, 2, 2, 3, 2, 3, 3, 4];
 
-// How many of the lowest n bits of w are set. Of up to eight, four at a time are looked up: counted, an event with 16 leaves took some 140
-// instructions more.
+// How many of the lowest n bits of w are set. Of up to eight, four at a time are looked up: counted, an event call with 16 leaves took some
+// 140 instructions more.
 fn ones_of_lowest(w: u64, n: u8) -> u8
     requires { n ≤ 32 }
     ensures { result ≡ closed_in w 0 n }

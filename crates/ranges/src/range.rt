@@ -65,8 +65,8 @@ fn packed(words: &[u8], bits: u8) -> u64
         .fold(0, |packed, &word| packed << bits | u64::from(word))
 }
 
-// The segment words in use, each of b bits, have no closed bit set. All are tested at once: word by word, an event with 32 words took some
-// 120 instructions more. Words and setup stay two arguments: a struct of both, for two functions, would be longer.
+// The segment words in use, each of b bits, have no closed bit set. All are tested at once: word by word, an event call with 32 words took
+// some 120 instructions more. Words and setup stay two arguments: a struct of both, for two functions, would be longer.
 fn words_open(words: &[u8; 64], accepted: Accepted) -> bool
     requires { all_below (accepted.leaves * accepted.segments) (word_test accepted words.now) ≡ true }
     ensures { result ≡ all_below (accepted.leaves * accepted.segments) (closed_test accepted words.now) }

@@ -24,8 +24,7 @@ overflow_sub-setup-4 c = omega (arith, (limits_of c.setup-setup.result c.setup-s
 pub overflow_sub-name_limit : goal.overflow_sub-name_limit
 overflow_sub-name_limit c =
     let accepted = same_answer c.setup-setup.ensures.value c.setup-setup.ensures.accepted in
-    let limit = limit_64 c.args.accepted accepted 0 (omega arith) in
-    omega (arith, c.name_limit.ensures, limit)
+    omega (arith, c.name_limit.ensures, limit_64 c.args.accepted accepted)
 
 pub returns-clause-value : goal.returns-clause-value
 unfolding headroom
