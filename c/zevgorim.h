@@ -119,13 +119,13 @@ enum {
  * painted stack was written, with the archive as the toolchain compiles it (-O3) and glibc's memcpy, memmove and memset, and c/run fails
  * where a call takes more. What the caller's own frame has for the state (552 bytes) and the result (560 bytes) comes on top. */
 enum {
-    ZEVGORIM_STACK_SETUP = 3072, /* setup, partial_setup */
-    ZEVGORIM_STACK_CLOSED_SETUP = 3072,
+    ZEVGORIM_STACK_SETUP = 2432, /* setup, partial_setup */
+    ZEVGORIM_STACK_CLOSED_SETUP = 2432,
     ZEVGORIM_STACK_EVENT = 1024, /* event, request, step, release, run */
     ZEVGORIM_STACK_REPORT = 960, /* gate_report, fill_status */
-    ZEVGORIM_STACK_READ_SETUP = 4224,
+    ZEVGORIM_STACK_READ_SETUP = 3584,
     ZEVGORIM_STACK_SMALL = 128, /* file_answer, read_events, write_file, journal_text, dearest_list */
-    ZEVGORIM_STACK_FILE_TEXT = 69888
+    ZEVGORIM_STACK_FILE_TEXT = 69632
 };
 
 /* One process [handset]. */

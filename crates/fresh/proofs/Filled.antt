@@ -1,30 +1,28 @@
--- A counter that a count reaches is fresh, and any other place is 0: by cases on the definition's tests. Assumes nothing.
-use mathlib.Core.Path.{◌≡◌, sym}
-use Prim.Native.Nat.{ℕ, ◌-◌, ◌≤◌, ◌<◌}
+-- The processes of a setup, filled upwards: those below p are fresh. By cases on how a place lies to p. Assumes nothing.
+use Prim.Native.Nat.{ℕ, ◌+◌, ◌<◌}
 use native.Mathlib.Decide.{dec_lt}
-use native.Mathlib.Omega.{arith}
-use Rattle.machine.proofs.Rules.{le-ltb, lt-leb, le-leb, and-false, cond, Bool, true, false, refl}
-use Rattle.std.specs.Prelude.{leb}
-use Rattle.machine.specs.State.{fresh_counter, fresh_counter_at, partial_counter_at}
-use Rattle.machine.specs.declared.Setup.{Setup}
-use Rattle.machine.proofs.Laws.Fresh.{fresh_at}
+use lib.Dec.{ltb}
+use lib.ListN.{set, replicate}
+use Rattle.machine.proofs.Rules.{◌≡◌, ◌∙◌, sym, refl, arith, cond, lt-ltb, le-ltb}
+use Rattle.machine.specs.Below.{tabulate}
+use Rattle.machine.specs.State.{no_process, fresh_process}
+use Rattle.machine.specs.declared.Process.{Process}
+use Rattle.machine.proofs.Facts.Tabulated.{tabulate-set}
 
-module _ (c : Setup) (count v : ℕ) where
-  -- a place that carries no counter
-  pub place_unused : (1 ≤ v × v < c.leaves → ⊥) → 0 ≡ partial_counter_at c count v
-  unfolding partial_counter_at fresh_counter_at
-  place_unused d = go (dec_lt 0 v) (dec_lt v c.leaves) (leb (c.leaves - v) count)
-    where
-      go : Dec (0 < v) → Dec (v < c.leaves) → (t : Bool) → 0 ≡ cond t (fresh_counter_at c v) 0
-      go p q false = refl
-      go (no p) q true = rw (le-ltb 0 v (omega (arith, p))) refl
-      go (yes p) (no q) true = rw (le-ltb v c.leaves (omega (arith, q)), and-false _) refl
-      go (yes p) (yes q) true = absurd (d (omega (arith, p), q))
+-- the first p processes fresh
+abbrev pub first_fresh : ℕ → ℕ → Process
+first_fresh p j = cond (ltb j p) fresh_process no_process
 
-  pub place_unreached : count < c.leaves - v → 0 ≡ partial_counter_at c count v
-  unfolding partial_counter_at
-  place_unreached k = rw (lt-leb (c.leaves - v) count k) refl
+pub fresh_none : replicate 64 no_process ≡ tabulate 64 (first_fresh 0)
+unfolding tabulate
+fresh_none = refl
 
-  pub place_reached : 0 < v → v < c.leaves → c.leaves - v ≤ count → fresh_counter c v ≡ partial_counter_at c count v
-  unfolding partial_counter_at
-  place_reached p q k = rw (le-leb (c.leaves - v) count k) (sym (fresh_at c v p q))
+pub fresh_more : (p : ℕ) (h : Process) → p < 64 → h ≡ fresh_process
+    → set (tabulate 64 (first_fresh p)) p h ≡ tabulate 64 (first_fresh (p + 1))
+fresh_more p h k e =
+    tabulate-set 64 (first_fresh p) (first_fresh (p + 1)) p h k (e ∙ sym (rw (lt-ltb p (p + 1) (omega arith)) refl))
+    (λ j d. other j d (dec_lt j p))
+  where
+    other : (j : ℕ) → (j ≡ p → ⊥) → Dec (j < p) → first_fresh p j ≡ first_fresh (p + 1) j
+    other j d (yes l) = rw (lt-ltb j p l, lt-ltb j (p + 1) (omega arith)) refl
+    other j d (no l) = rw (le-ltb j p (omega (arith, l)), le-ltb j (p + 1) (omega (arith, l, d))) refl

@@ -8,7 +8,6 @@ ghost use Rattle.machine.specs.State.{depth, fresh_counter, fresh_process_at, pa
 
 use crate::{closed, limits, state};
 use machine::{Process, Refusal, Setup, State};
-use std::array;
 use std::marker::Model;
 
 // A setup that passed its checks, on which each method may rest: its values keep that, and `of` asks for it.
@@ -108,27 +107,30 @@ impl Accepted {
         n - closed::closed_in(closed, before * n, n)
     }
 
-    // Node v's counter where the count reaches it, from node l - 1 down to node 1; 0 at every other place.
-    fn counter(self, v: u8, count: u64) -> u8
-        ensures { result ≡ partial_counter_at self count v }
+    // The counters of so many nodes, from node l - 1 up to node 1, with 0 at every other place.
+    fn counters(self, count: u64) -> [u8; 16]
+        ensures { result ≡ tabulate 16 (partial_counter_at self count) }
     {
         let leaves = self.setup.leaves;
-        if !(1..leaves).contains(&v) || u64::from(leaves - v) > count {
-            return 0;
+        let every = leaves - 1;
+        let filled = count.min(every.into()) as u8;
+        let first = leaves - filled;
+        let mut counters = [0; 16];
+        for v in (first..leaves).rev() {
+            counters[usize::from(v)] = self.fresh_counter(v);
         }
-        self.fresh_counter(v)
+        counters
     }
 
-    // A process in use is fresh; any other place is unused.
-    #[tactic(auto, unfolding(machine::specs::State::fresh_process_at))]
-    fn process(self, p: usize) -> Process
-        ensures { result ≡ fresh_process_at self p }
+    // The processes in use fresh, with an unused place at each of the others.
+    fn processes(self) -> [Process; 64]
+        ensures { result ≡ tabulate 64 (fresh_process_at self) }
     {
-        if p < usize::from(self.setup.processes) {
-            state::fresh_process()
-        } else {
-            Process::default()
+        let mut process = [Process::default(); 64];
+        for p in 0..self.setup.processes {
+            process[usize::from(p)] = state::fresh_process();
         }
+        process
     }
 
     // The fresh state with so many of its counters: segment words, then counters.
@@ -141,8 +143,8 @@ impl Accepted {
             queued: 0,
             queue: [0; 64],
             words: [0; 64],
-            counters: array::from_fn(|v| self.counter(v as u8, count)),
-            process: array::from_fn(|p| self.process(p)),
+            counters: self.counters(count),
+            process: self.processes(),
         }
     }
 }

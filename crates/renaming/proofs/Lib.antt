@@ -1,3 +1,4 @@
 -- What the functions' proofs share.
 pub mod Listed
+pub mod Made
 pub mod Signs

@@ -12,6 +12,7 @@ use machine::{Numbers, Refusal, Setup, State};
 const EVERY: u64 = 15;
 
 // The state of a setup that is accepted, with so many counters filled, from node l - 1 up to node 1, and the others 0.
+#[tactic(auto, using(crate::proofs::Made::refused, crate::proofs::Made::accepted, machine::proofs::Facts::Refusals::number_pos))]
 fn made(setup: Setup, count: u64) -> Result<State, Refusal>
     ensures { as_done blank result ≡ State·partial_setup setup count }
 {
@@ -31,7 +32,7 @@ pub fn partial_setup(numbers: Numbers, count: u64) -> Result<State, Refusal>
 pub fn setup(numbers: Numbers) -> Result<State, Refusal>
     ensures { as_done blank result ≡ State·setup (plain_of numbers) }
 {
-    partial_setup(numbers, EVERY)
+    made(numbers.into(), EVERY)
 }
 
 // The fresh state of four numbers and a list of closed names, one byte each, in any order and with doubles. Refused with 1 to 5, with 19

@@ -1,5 +1,5 @@
 -- Every number of a default state is 0, those of an array place by place.
-use Rattle.std.proofs.Common.{◌≡◌, ◌∙◌, ℕ, List, length, refl, sym, subst, ◌<◌}
+use Rattle.std.proofs.Common.{◌≡◌, ◌∙◌, ℕ, List, refl, sym, subst, ◌<◌}
 use lib.ListN.{replicate, length-replicate}
 use lib.Seq.{ext_get_or}
 use Rattle.std.specs.Array.{AllOfLen}
