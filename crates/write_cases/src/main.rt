@@ -10,15 +10,17 @@ use std::io::{self, ErrorKind, Read, Write};
 
 // Reads a call, makes it and prints its line. An error where the input ends, within a record too, and where more is asked than there is.
 fn next<R: Read, W: Write>(input: &mut R, output: &mut W) -> io::Result<()> {
+    // made before the input is read: behind a `?` each is made twice
+    let mut events = [0; 262144];
+    let mut out = [170; 65536];
     let numbers = Numbers::from(input::read(input)?);
     let size = input::read_size(input)?;
     let given = input::read_size(input)?;
     let room = input::read_size(input)?;
-    let mut events = [0; 262144];
+    // what is asked is looked at before the list is read
     let events = events.get_mut(..size).ok_or(ErrorKind::InvalidData)?;
-    input::read_into(input, events, given)?;
-    let mut out = [170; 65536];
     let out = out.get_mut(..room).ok_or(ErrorKind::InvalidData)?;
+    input::read_into(input, events, given)?;
     let written = day_writer::write_file(numbers, events, out);
     let answer = refusal::answered(&written);
     // Rust has no From between usize and u64
