@@ -123,7 +123,7 @@ enum {
     ZEVGORIM_STACK_CLOSED_SETUP = 2432,
     ZEVGORIM_STACK_EVENT = 1024, /* event, request, step, release, run */
     ZEVGORIM_STACK_REPORT = 960, /* gate_report, fill_status */
-    ZEVGORIM_STACK_READ_SETUP = 3584,
+    ZEVGORIM_STACK_READ_SETUP = 3072,
     ZEVGORIM_STACK_SMALL = 128, /* file_answer, read_events, write_file, journal_text, dearest_list */
     ZEVGORIM_STACK_FILE_TEXT = 69632
 };
